@@ -33,7 +33,7 @@ use Rattle.gx_fifo.specs.GxStates.{AreWaiting, is_stalled}
 use Rattle.ds_base.specs.declared.processors.Raised.{Raised}
 use Rattle.video2d.specs.Scans.{ScanState, blanks_drawn_line, line_after, scan_after, scan_due, scan_due_tick, starts_vblank}
 use Rattle.video2d.specs.Engines.{points_stepped}
-use Rattle.video2d.specs.Videos.{VideoState, line_drawn, unless_stop, video_after_event, video_blanked, video_happened, video_line_started, video_shown, video_stop}
+use Rattle.video2d.specs.Videos.{VideoState, hblank_set, line_drawn, unless_stop, video_after_event, video_blanked, video_happened, video_line_started, video_shown, video_stop}
 use Rattle.video2d.specs.declared.videos.Shown.{Shown}
 use Rattle.vram_banks.specs.Cells.{Banks}
 
@@ -225,7 +225,7 @@ happened_whole m palette oam v h = go v.scan.blanked h where
   started true e = absurd (grind (arith, e))
   started false e = refl
 
-  blanked : (b : Bool) → (if b then record v { scan = scan_after v.scan; a = points_stepped v.a; b = points_stepped v.b; drawn = line_drawn m palette oam v } else record v { scan = scan_after v.scan }).whole ≡ v.whole
+  blanked : (b : Bool) → (if b then record (hblank_set v) { a = points_stepped v.a; b = points_stepped v.b; drawn = line_drawn m palette oam v } else hblank_set v).whole ≡ v.whole
   blanked true = refl
   blanked false = refl
 

@@ -25,11 +25,11 @@ all_of_half number l = omega (arith, l)
 all_of_word : (number : ℕ) → number < 2 ^ 32 → part Word 0 number ≡ number
 all_of_word number l = omega (arith, l)
 
-pub status_half : (proc : Proc) (now : Tick) (u : IoState) → status_word u.video.scan (status_of u.video proc) < 2 ^ 16
-    → port_value proc now u 0x004 Half ≡ status_word u.video.scan (status_of u.video proc)
+pub status_half : (proc : Proc) (now : Tick) (u : IoState) → status_word (status_of u.video proc) < 2 ^ 16
+    → port_value proc now u 0x004 Half ≡ status_word (status_of u.video proc)
 unfolding port_value slot_of
-status_half Nine now u l = joined (status_word u.video.scan u.video.nine) l
-status_half Seven now u l = joined (status_word u.video.scan u.video.seven) l
+status_half Nine now u l = joined (status_word u.video.nine) l
+status_half Seven now u l = joined (status_word u.video.seven) l
 
 pub line_half : (proc : Proc) (now : Tick) (u : IoState) → u.video.scan.line < 2 ^ 16 → port_value proc now u 0x006 Half ≡ u.video.scan.line
 unfolding port_value slot_of

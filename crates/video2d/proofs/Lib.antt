@@ -5,3 +5,8 @@ pub mod StopLemmas
 pub mod Framed
 pub mod Colours
 pub mod VideoLaws
+pub mod SavedScans
+pub mod SavedPorts
+pub mod SavedLoops
+pub mod SavedKept
+pub mod SavedLaws

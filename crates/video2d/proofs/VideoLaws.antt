@@ -15,12 +15,12 @@ use Rattle.vram_banks.specs.Cells.{Banks}
 use Rattle.video2d.proofs.Colours.{laid_frame, line_colours, line_long}
 use Rattle.video2d.specs.DisplayRegisters.{display_row, engine_bytes, engine_row_at, kept_at}
 use Rattle.video2d.specs.Engines.{EngineState, PointState, coordinate_at, engine_at_boot, engine_byte_by, point_started, point_stepped, point_written, points_after, points_started, points_stepped, word_of_28, word_of_half}
-use Rattle.video2d.specs.Invariants.{IsColour, IsEngine, IsFrame, IsPoint, IsDispstat, IsVideo, StaysVideo, kept_bits_at, kept_by}
+use Rattle.video2d.specs.Invariants.{IsColour, IsEngine, IsFrame, IsPoint, IsDispstat, IsVideo, StayTelling, StaysVideo, TellScan, TellsScan, kept_bits_at, kept_by}
 use Rattle.video2d.specs.Pictures.{engine_line, line_place, screen_of}
 use Rattle.video2d.specs.Ports.{video_port}
 use Rattle.video2d.specs.Scans.{ScanState, blanks_drawn_line, line_after, scan_after}
-use Rattle.video2d.specs.Statuses.{StatusState, status_written, with_half_byte}
-use Rattle.video2d.specs.Videos.{VideoState, drawn_with, engine_of, line_drawn, unless_stop, video_after_event, video_blanked, video_byte_written, video_byte_written_by, video_line_started, video_stop}
+use Rattle.video2d.specs.Statuses.{StatusState, status_blanked, status_started, status_written, with_half_byte}
+use Rattle.video2d.specs.Videos.{VideoState, drawn_with, engine_of, hblank_set, line_drawn, unless_stop, video_after_event, video_blanked, video_byte_written, video_byte_written_by, video_happened, video_line_started, video_stop}
 use Rattle.video2d.specs.declared.display_registers.DisplayRegister.TheVariants.{Dispstat}
 use Rattle.video2d.specs.declared.display_registers.DisplayRow.{DisplayRow}
 use Rattle.video2d.specs.declared.engines.Engine.{Engine}
@@ -195,11 +195,11 @@ drawn_line s h = grind (arith, h)
 blanked_is : (m : Banks) (palette oam : List ℕ) (v : VideoState) → IsVideo v → IsVideo (video_blanked m palette oam v)
 blanked_is m palette oam v is = either_by IsVideo (blanks_drawn_line v.scan) _ _ drawn left where
   drawn : blanks_drawn_line v.scan ≡ true
-      → IsVideo (record v { scan = scan_after v.scan; a = points_stepped v.a; b = points_stepped v.b; drawn = line_drawn m palette oam v })
+      → IsVideo (record (hblank_set v) { a = points_stepped v.a; b = points_stepped v.b; drawn = line_drawn m palette oam v })
   drawn h = record {
     line = line_is v.scan is.line;
-    nine = is.nine;
-    seven = is.seven;
+    nine = record { kept = is.nine.kept };
+    seven = record { kept = is.seven.kept };
     a = stepped_all A v.a is.a;
     b = stepped_all B v.b is.b;
     power = is.power;
@@ -207,11 +207,11 @@ blanked_is m palette oam v is = either_by IsVideo (blanks_drawn_line v.scan) _ _
     whole = is.whole;
   }
 
-  left : blanks_drawn_line v.scan ≡ false → IsVideo (record v { scan = scan_after v.scan })
+  left : blanks_drawn_line v.scan ≡ false → IsVideo (hblank_set v)
   left h = record {
     line = line_is v.scan is.line;
-    nine = is.nine;
-    seven = is.seven;
+    nine = record { kept = is.nine.kept };
+    seven = record { kept = is.seven.kept };
     a = is.a;
     b = is.b;
     power = is.power;
@@ -276,4 +276,85 @@ stays_video = record {
   };
   write = λ proc v at width value is. write_is proc v (aligned_down width at) width value is;
   event = event_is;
+}
+
+-- ---- the flags tell where the display is
+
+-- a write leaves both, and where the display is
+record Tells (v w : VideoState) : Type 0 where
+  scan : w.scan ≡ v.scan
+  nine : (w.nine.vblank ≡ v.nine.vblank) × (w.nine.hblank ≡ v.nine.hblank)
+  seven : (w.seven.vblank ≡ v.seven.vblank) × (w.seven.hblank ≡ v.seven.hblank)
+
+tells_still : (v : VideoState) → Tells v v
+tells_still v = record { scan = refl; nine = (refl, refl); seven = (refl, refl) }
+
+port_tells : (port : VideoPort) (proc : Proc) (v : VideoState) (value : ℕ) → Tells v (video_byte_written_by port proc v value)
+port_tells (Status byte) Nine v value = record { scan = refl; nine = (refl, refl); seven = (refl, refl) }
+port_tells (Status byte) Seven v value = record { scan = refl; nine = (refl, refl); seven = (refl, refl) }
+port_tells (Count byte) proc v value = tells_still v
+port_tells (OfEngine A at) proc v value = record { scan = refl; nine = (refl, refl); seven = (refl, refl) }
+port_tells (OfEngine B at) proc v value = record { scan = refl; nine = (refl, refl); seven = (refl, refl) }
+port_tells (Power byte) proc v value = record { scan = refl; nine = (refl, refl); seven = (refl, refl) }
+port_tells Nothing proc v value = tells_still v
+
+still_tells : (v w : VideoState) → Tells v w → TellScan v → TellScan w
+still_tells v w t told = record {
+  line = rw t.scan told.line;
+  nine = record { vblank = rw t.scan (t.nine.0 ∙ told.nine.vblank); hblank = rw t.scan (t.nine.1 ∙ told.nine.hblank) };
+  seven = record { vblank = rw t.scan (t.seven.0 ∙ told.seven.vblank); hblank = rw t.scan (t.seven.1 ∙ told.seven.hblank) };
+}
+
+byte_tells : (proc : Proc) (at value : ℕ) (v : VideoState) → TellScan v → TellScan (video_byte_written proc at value v)
+unfolding video_byte_written
+byte_tells proc at value v told = still_tells v _ (port_tells (video_port proc at) proc v value) told
+
+write_tells : (proc : Proc) (v : VideoState) (at : ℕ) (width : Width) (value : ℕ) → TellScan v
+    → TellScan (put_by width (video_byte_written proc) at value v)
+write_tells proc v at Byte value told = byte_tells proc _ _ v told
+write_tells proc v at Half value told = byte_tells proc _ _ _ (byte_tells proc _ _ v told)
+write_tells proc v at Word value told = byte_tells proc _ _ _ (byte_tells proc _ _ _ (byte_tells proc _ _ _ (byte_tells proc _ _ v told)))
+
+-- a line's H-blank, and the start of the next
+blanked_tells : (s : ScanState) (status : StatusState) → s.blanked ≡ false → TellsScan s status → TellsScan (scan_after s) (status_blanked status)
+blanked_tells s status h told = let same = told.vblank in record { vblank = grind (arith, h, same); hblank = grind (arith, h) }
+
+started_tells : (s : ScanState) (status : StatusState) → s.line ≤ 262 → s.blanked ≡ true → TellsScan s status
+    → TellsScan (scan_after s) (status_started (line_after s.line) status)
+started_tells s status le h told = let same = told.vblank in record { vblank = grind (arith, le, h, same); hblank = grind (arith, h) }
+
+happened_tells : (m : Banks) (palette oam : List ℕ) (v : VideoState) → TellScan v → TellScan (video_happened m palette oam v)
+happened_tells m palette oam v told = either_by TellScan v.scan.blanked _ _ started blanked where
+  started : v.scan.blanked ≡ true → TellScan (video_line_started (line_after v.scan.line) v)
+  started h = record {
+    line = line_is v.scan told.line;
+    nine = started_tells v.scan v.nine told.line h told.nine;
+    seven = started_tells v.scan v.seven told.line h told.seven;
+  }
+
+  set : v.scan.blanked ≡ false → TellScan (hblank_set v)
+  set h = record {
+    line = line_is v.scan told.line;
+    nine = blanked_tells v.scan v.nine h told.nine;
+    seven = blanked_tells v.scan v.seven h told.seven;
+  }
+
+  blanked : v.scan.blanked ≡ false → TellScan (video_blanked m palette oam v)
+  blanked h =
+      either TellScan (blanks_drawn_line v.scan) _ _
+      (let s = set h in record { line = s.line; nine = s.nine; seven = s.seven }) (set h)
+
+unless_tells : (stop : Option Stop) (made left : VideoState) → TellScan made → TellScan left → TellScan (unless_stop stop made left)
+unless_tells None made left told was = told
+unless_tells (Some stop) made left told was = was
+
+pub stay_telling : StayTelling
+stay_telling = record {
+  boot = record {
+    line = omega arith;
+    nine = record { vblank = refl; hblank = refl };
+    seven = record { vblank = refl; hblank = refl };
+  };
+  write = λ proc v at width value told. write_tells proc v (aligned_down width at) width value told;
+  event = λ m palette oam v told. unless_tells (video_stop oam v) _ _ (happened_tells m palette oam v told) told;
 }

@@ -1,4 +1,4 @@
-use Rattle.std.specs.Prelude.{ℕ, ◌≡◌, ◌≤◌, ◌+◌, ◌-◌, ◌*◌, ◌/◌, ◌%◌, ◌^◌, Bool, true, false, if◌then◌else◌, List, [], ◌∷◌, ◌++◌, Option, Some, None}
+use Rattle.std.specs.Prelude.{ℕ, ◌≡◌, ◌≤◌, ◌-◌, ◌*◌, ◌/◌, ◌%◌, ◌^◌, Bool, true, false, if◌then◌else◌, List, [], ◌∷◌, ◌++◌, Option, Some, None}
 use Rattle.ds_base.specs.Numbers.{is_within}
 use Rattle.video2d.specs.declared.display_registers.DisplayRegister.{DisplayRegister}
 use Rattle.video2d.specs.declared.display_registers.DisplayRegister.TheVariants.{Dispstat, Vcount, Powcnt1, Dispcnt, Bg0cnt, Bg0hofs, Bg2pa, Bg2x, Bg3pa, Bg3x, Win0h, Win0v, Winin, Winout, Mosaic, Bldcnt, Bldalpha, Bldy, MasterBright, Dispcapcnt}

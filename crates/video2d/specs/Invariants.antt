@@ -5,6 +5,7 @@ use Rattle.ds_base.specs.declared.processors.Proc.{Proc}
 use Rattle.vram_banks.specs.Cells.{Banks}
 use Rattle.video2d.specs.DisplayRegisters.{display_row, engine_bytes, engine_row_at, kept_at}
 use Rattle.video2d.specs.Engines.{EngineState, PointState}
+use Rattle.video2d.specs.Scans.{ScanState, in_vblank}
 use Rattle.video2d.specs.Statuses.{StatusState}
 use Rattle.video2d.specs.Videos.{VideoState, video_after_event, video_at_boot, video_written}
 use Rattle.video2d.specs.declared.display_registers.DisplayRegister.TheVariants.{Dispstat}
@@ -52,6 +53,21 @@ pub record IsVideo (v : VideoState) : Type 0 where
   pub power : v.power < 2 ^ 16
   pub drawn : IsFrame v.drawn
   pub whole : IsFrame v.whole
+
+-- The flags of DISPSTAT tell where the display is, as they do from boot on; those of a state that is made of bytes may be others.
+pub record TellsScan (scan : ScanState) (s : StatusState) : Type 0 where
+  pub vblank : s.vblank ≡ in_vblank scan.line
+  pub hblank : s.hblank ≡ scan.blanked
+
+pub record TellScan (v : VideoState) : Type 0 where
+  pub line : v.scan.line ≤ 262
+  pub nine : TellsScan v.scan v.nine
+  pub seven : TellsScan v.scan v.seven
+
+pub record StayTelling : Type 0 where
+  pub boot : TellScan video_at_boot
+  pub write : (proc : Proc) (v : VideoState) (at : ℕ) (width : Width) (value : ℕ) → TellScan v → TellScan (video_written proc v at width value)
+  pub event : (m : Banks) (palette oam : List ℕ) (v : VideoState) → TellScan v → TellScan (video_after_event m palette oam v)
 
 -- it holds at boot, and each write of a port and each event leaves it so
 pub record StaysVideo : Type 0 where

@@ -13,3 +13,4 @@ pub mod Videos
 pub mod Windows
 pub mod rows
 pub mod Invariants
+pub mod Saved

@@ -1,4 +1,4 @@
-use Rattle.std.specs.Prelude.{ℕ, ◌+◌, ◌*◌, ◌==◌, nat_le, nat_lt, ◌&&◌, not, Bool, false, true, if◌then◌else◌, ◌-◌, Option, Some, None}
+use Rattle.std.specs.Prelude.{ℕ, ◌+◌, ◌*◌, ◌/◌, ◌%◌, ◌==◌, nat_le, nat_lt, ◌&&◌, not, Bool, false, true, if◌then◌else◌, ◌-◌, Option, Some, None}
 use Rattle.ds_base.specs.declared.ticks.Tick.{Tick}
 
 -- Where the display is, and when its events come (GBATEK, "DS Video", LCD timings; the tick of H-blank is our choice). A line has 355 dots of
@@ -38,8 +38,8 @@ scan_after s = if s.blanked then next_line_scan s else record s { blanked = true
 abbrev pub is_drawn_line : ℕ → Bool
 is_drawn_line line = nat_lt line 192
 
--- the V-blank flag: it is set at the start of line 192 and cleared at that of line 262 (GBATEK, "LCD I/O Interrupts and Status": it isn't set
--- in a frame's last line)
+-- the lines at which the V-blank flag is set from boot on: it is set at the start of line 192 and cleared at that of line 262 (GBATEK, "LCD I/O
+-- Interrupts and Status": it isn't set in a frame's last line)
 abbrev pub in_vblank : ℕ → Bool
 in_vblank line = nat_le 192 line && nat_lt line 262
 
@@ -58,3 +58,11 @@ whole_tick frame = record { 0 = 1120380 * frame + 817920 }
 -- when the last whole frame became so: the present one from its line 192 on, and until then the one before it, where there was one
 abbrev pub framed_by : ScanState → Option Tick
 framed_by s = if nat_le 192 s.line then Some (whole_tick s.frame) else (if s.frame == 0 then None else Some (whole_tick (s.frame - 1)))
+
+-- where the display is once all events that are due below a tick have been: what the tick before it falls into
+abbrev pub scan_before : ℕ → ScanState
+scan_before at = record {
+  frame = (at - 1) / 1120380;
+  line = (at - 1) % 1120380 / 4260;
+  blanked = nat_le 3212 ((at - 1) % 1120380 % 4260);
+}

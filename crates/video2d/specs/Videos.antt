@@ -9,7 +9,7 @@ use Rattle.video2d.specs.Engines.{EngineState, engine_at_boot, engine_byte, engi
 use Rattle.video2d.specs.Pictures.{engine_line, line_laid, line_place, screen_of}
 use Rattle.video2d.specs.Ports.{video_port}
 use Rattle.video2d.specs.Scans.{ScanState, blanks_drawn_line, line_after, scan_after, scan_at_boot, starts_vblank}
-use Rattle.video2d.specs.Statuses.{StatusState, half_byte, raised_at_hblank, raised_at_start, status_at_boot, status_started, status_word, status_written, with_half_byte}
+use Rattle.video2d.specs.Statuses.{StatusState, half_byte, raised_at_hblank, raised_at_start, status_at_boot, status_blanked, status_started, status_word, status_written, with_half_byte}
 use Rattle.video2d.specs.Stops.{needs_of_line}
 use Rattle.video2d.specs.declared.engines.Engine.{Engine}
 use Rattle.video2d.specs.declared.engines.Engine.TheVariants.{A, B}
@@ -58,7 +58,7 @@ engine_of v A = v.a
 engine_of v B = v.b
 
 abbrev pub video_byte_by : VideoPort → Proc → VideoState → ℕ
-video_byte_by (Status byte) proc v = half_byte byte (status_word v.scan (status_of v proc))
+video_byte_by (Status byte) proc v = half_byte byte (status_word (status_of v proc))
 video_byte_by (Count byte) proc v = half_byte byte v.scan.line
 video_byte_by (OfEngine which at) proc v = engine_byte which (engine_of v which) at
 video_byte_by (Power byte) proc v = half_byte byte v.power
@@ -106,14 +106,18 @@ drawn_with m palette oam v which frame =
 abbrev pub line_drawn : Banks → List ℕ → List ℕ → VideoState → List ℕ
 line_drawn m palette oam v = drawn_with m palette oam v B (drawn_with m palette oam v A v.drawn)
 
--- a line's H-blank: one of lines 0 to 191 is drawn, and then the points of the affine backgrounds go on, whatever is shown
+-- a line's H-blank sets both flags of H-blank; one of lines 0 to 191 is drawn, and then the points of the affine backgrounds go on, whatever is
+-- shown
+abbrev pub hblank_set : VideoState → VideoState
+hblank_set v = record v { scan = scan_after v.scan; nine = status_blanked v.nine; seven = status_blanked v.seven }
+
 abbrev pub video_blanked : Banks → List ℕ → List ℕ → VideoState → VideoState
 video_blanked m palette oam v =
     if blanks_drawn_line v.scan
-    then record v { scan = scan_after v.scan; a = points_stepped v.a; b = points_stepped v.b; drawn = line_drawn m palette oam v }
-    else record v { scan = scan_after v.scan }
+    then record (hblank_set v) { a = points_stepped v.a; b = points_stepped v.b; drawn = line_drawn m palette oam v }
+    else hblank_set v
 
--- a line's start, whose number is given: V-count's flags, at line 0 the points of the affine backgrounds, at line 192 the whole frame
+-- a line's start, whose number is given: both processors' flags, at line 0 the points of the affine backgrounds, at line 192 the whole frame
 abbrev pub video_line_started : ℕ → VideoState → VideoState
 video_line_started line v = record v {
   scan = scan_after v.scan;

@@ -1,7 +1,7 @@
 //! The display's registers, by GBATEK's names ("DS I/O Maps").
 
-ghost use Rattle.std.specs.Prelude.{◌≡◌, IfSome};
-ghost use Rattle.video2d.specs.DisplayRegisters.{read_write, written_alone, display_row, display_offset, control_registers, background_registers, window_registers, effect_registers, drawing_registers, output_registers, row_among, engine_row_at, kept_at, HasByteAt};
+ghost use Rattle.std.specs.Prelude.{◌≡◌, ◌≤◌, ◌+◌, IfSome};
+ghost use Rattle.video2d.specs.DisplayRegisters.{read_write, written_alone, display_row, display_offset, control_registers, background_registers, window_registers, effect_registers, drawing_registers, output_registers, row_among, engine_bytes, engine_row_at, kept_at, HasByteAt};
 
 use crate::engines::Engine;
 
@@ -144,6 +144,7 @@ impl DisplayRow {
 fn background_row_at(at: u32) -> Option<DisplayRow>
     ensures value { result ≡ row_among background_registers at }
     ensures fits { IfSome result (λ row. HasByteAt row at) }
+    ensures inside { IfSome result (λ row. at + row.bytes ≤ engine_bytes) }
 {
     match at {
         0x08..=0x0F => Some(DisplayRegister::Bg0cnt.row()),
@@ -160,6 +161,7 @@ fn background_row_at(at: u32) -> Option<DisplayRow>
 fn window_row_at(at: u32) -> Option<DisplayRow>
     ensures value { result ≡ row_among window_registers at }
     ensures fits { IfSome result (λ row. HasByteAt row at) }
+    ensures inside { IfSome result (λ row. at + row.bytes ≤ engine_bytes) }
 {
     match at {
         0x40..=0x43 => Some(DisplayRegister::Win0h.row()),
@@ -175,6 +177,7 @@ fn window_row_at(at: u32) -> Option<DisplayRow>
 fn effect_row_at(at: u32) -> Option<DisplayRow>
     ensures value { result ≡ row_among effect_registers at }
     ensures fits { IfSome result (λ row. HasByteAt row at) }
+    ensures inside { IfSome result (λ row. at + row.bytes ≤ engine_bytes) }
 {
     match at {
         0x50..=0x51 => Some(DisplayRegister::Bldcnt.row()),
@@ -189,6 +192,7 @@ fn effect_row_at(at: u32) -> Option<DisplayRow>
 pub fn control_row_at(at: u32) -> Option<DisplayRow>
     ensures value { result ≡ row_among control_registers at }
     ensures fits { IfSome result (λ row. HasByteAt row at) }
+    ensures inside { IfSome result (λ row. at + row.bytes ≤ engine_bytes) }
 {
     match at {
         0x00..=0x03 => Some(DisplayRegister::Dispcnt.row()),
@@ -201,6 +205,7 @@ pub fn control_row_at(at: u32) -> Option<DisplayRow>
 pub fn drawing_row_at(at: u32) -> Option<DisplayRow>
     ensures value { result ≡ row_among drawing_registers at }
     ensures fits { IfSome result (λ row. HasByteAt row at) }
+    ensures inside { IfSome result (λ row. at + row.bytes ≤ engine_bytes) }
 {
     match background_row_at(at) {
         Some(row) => Some(row),
@@ -216,6 +221,7 @@ pub fn drawing_row_at(at: u32) -> Option<DisplayRow>
 pub fn output_row_at(which: Engine, at: u32) -> Option<DisplayRow>
     ensures value { result ≡ row_among (output_registers which) at }
     ensures fits { IfSome result (λ row. HasByteAt row at) }
+    ensures inside { IfSome result (λ row. at + row.bytes ≤ engine_bytes) }
 {
     match at {
         0x64..=0x67 => match which {
@@ -232,6 +238,7 @@ pub fn output_row_at(which: Engine, at: u32) -> Option<DisplayRow>
 pub fn engine_row_at(which: Engine, at: u32) -> Option<DisplayRow>
     ensures value { result ≡ engine_row_at which at }
     ensures fits { IfSome result (λ row. HasByteAt row at) }
+    ensures inside { IfSome result (λ row. at + row.bytes ≤ engine_bytes) }
 {
     match control_row_at(at) {
         Some(row) => Some(row),

@@ -10,6 +10,8 @@ use bg_ext::ExtLayer;
 use bg2d::{AffineLayer, TextLayer};
 use std::marker::Model;
 
+pub mod saved;
+
 /// A 2D engine (GBATEK, "DS Video").
 #[derive(Clone, Copy, PartialEq, Eq)]
 pub enum Engine {

@@ -17,7 +17,10 @@
 //! next event leaves, flags, running points, the drawn line, the whole frame (clause `state`); what it raises at each processor, which DMA
 //! it triggers, whether a frame is whole, or why it stops, by the first need of the line in order (`answer`); after a stop all is as it
 //! was. `frame` is the last whole frame, 98,304 pixels. The memory of both frames is taken by `Video::new`, and none later. `video_laws`: at boot,
-//! and after each write of a port and each event, registers have the bits that they keep and no others, and pixels have bit 15 as 0.
+//! and after each write of a port and each event, registers have the bits that they keep and no others, and pixels have bit 15 as 0; the flags
+//! of V-blank and H-blank tell the line and its phase. `pack` puts exactly the display's bytes by one format, and `unpack` takes what it puts,
+//! or tells the first field that isn't whole or breaks its rule; `saved_laws`: the bytes of a display at a tick are read as that display, bytes
+//! that are read are those of the display that is read, and that is a display at that tick.
 //!
 //! Only tested, in `video2d_tests`: that the definitions are the console's, on rows worked by hand from GBATEK's tables, and that
 //! `Video::new` succeeds where there is memory.
@@ -46,4 +49,4 @@ pub use display_registers::{
 };
 pub use engines::Engine;
 pub use laws::video_laws;
-pub use videos::{Shown, Video};
+pub use videos::{Shown, Video, saved_laws};

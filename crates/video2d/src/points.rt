@@ -7,6 +7,8 @@ ghost use Rattle.video2d.specs.Engines.{word_of_half, word_of_28, coordinate_at,
 
 use std::marker::Model;
 
+mod saved;
+
 /// How many bytes an engine's ports have.
 pub const PORTS: usize = 112;
 

@@ -1,7 +1,8 @@
 //! Where the display is, and when its next event comes.
 
-ghost use Rattle.std.specs.Prelude.{◌≡◌, ◌<◌, ◌≤◌, ◌^◌};
-ghost use Rattle.video2d.specs.Scans.{scan_at_boot, scan_due, scan_after, line_after, is_drawn_line, in_vblank, blanks_drawn_line, starts_vblank, framed_by, scan_line_start};
+ghost use Rattle.std.specs.Prelude.{◌≡◌, ◌<◌, ◌≤◌, ◌^◌, Some};
+ghost use Rattle.video2d.specs.Scans.{scan_at_boot, scan_due, scan_after, line_after, is_drawn_line, blanks_drawn_line, starts_vblank, framed_by, scan_before, scan_line_start};
+ghost use Rattle.ds_base.specs.Schedules.{IsEarly};
 
 use ds_base::Tick;
 use std::marker::Model;
@@ -54,6 +55,24 @@ impl Scan {
         }
     }
 
+    /// Where the display is at a tick: all events that are due below it have been.
+    pub fn before(at: Tick) -> Scan
+        requires { IsEarly (Some at) }
+        ensures { result ≡ scan_before at.0 }
+    {
+        let ticks = at.0.saturating_sub(1);
+        let frame = ticks / FRAME_TICKS;
+        let line = ticks % FRAME_TICKS / LINE_TICKS;
+        let blanked = ticks % FRAME_TICKS % LINE_TICKS >= HBLANK_TICKS;
+        let wait = if blanked { LINE_TICKS } else { HBLANK_TICKS };
+        Scan {
+            frame,
+            line: line as u16,
+            blanked,
+            due: frame * FRAME_TICKS + line * LINE_TICKS + wait,
+        }
+    }
+
     /// When the next event is due, in ticks.
     #[inline(always)]
     pub fn due(&self) -> u64
@@ -75,13 +94,6 @@ impl Scan {
         ensures { result ≡ self.now.blanked }
     {
         self.blanked
-    }
-
-    /// Whether the V-blank flag is set.
-    pub fn in_vblank(&self) -> bool
-        ensures { result ≡ in_vblank self.now.line }
-    {
-        self.line >= VBLANK_LINE && self.line < LAST_LINE
     }
 
     /// Whether the next event is the H-blank of a line that is drawn.

@@ -7,6 +7,8 @@ ghost use Rattle.video2d.specs.Pictures.{line_laid};
 use std::alloc::{AllocError, Global};
 use std::marker::Model;
 
+mod saved;
+
 /// How many pixels both screens have.
 pub const PIXELS: usize = 98_304;
 

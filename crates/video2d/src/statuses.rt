@@ -1,19 +1,21 @@
 //! DISPSTAT, of which each processor has its own.
 
 ghost use Rattle.std.specs.Prelude.{◌≡◌, ◌≤◌, ◌+◌, ◌*◌};
-ghost use Rattle.ds_base.specs.Bits.{bits, flag};
-ghost use Rattle.video2d.specs.Statuses.{half_byte, with_half_byte, status_at_boot, status_written, vcount_setting, status_word, status_started, raised_where, raised_at_hblank, raised_at_start};
+ghost use Rattle.ds_base.specs.Bits.{bit, bits, flag};
+ghost use Rattle.video2d.specs.Saved.{status_of_bits};
+ghost use Rattle.video2d.specs.Statuses.{half_byte, with_half_byte, status_at_boot, status_written, vcount_setting, status_word, status_blanked, status_started, raised_where, raised_at_hblank, raised_at_start};
 
 use crate::display_registers::DisplayRegister;
-use crate::scans::Scan;
 use ds_base::Interrupt;
 use std::marker::Model;
 
-/// One processor's DISPSTAT: what it keeps, and its V-count flag.
+/// One processor's DISPSTAT: what it keeps, and its flags.
 #[derive(Drop)]
 pub struct Status {
     kept: u16,
-    matched: bool,
+    vblank: bool,
+    hblank: bool,
+    vcount: bool,
 }
 
 impl Model for Status {
@@ -21,7 +23,7 @@ impl Model for Status {
 
     ghost Value = { StatusState };
 
-    ghost view = { λ s. record { kept = s.kept; matched = s.matched } };
+    ghost view = { λ s. record { kept = s.kept; vblank = s.vblank; hblank = s.hblank; vcount = s.vcount } };
 }
 
 /// A byte of a half, the low one being byte 0.
@@ -53,6 +55,13 @@ fn mark(n: u8, set: bool) -> u16
     if set { 1 << n } else { 0 }
 }
 
+fn is_set(n: u8, word: u16) -> bool
+    requires { n ≤ 15 }
+    ensures { result ≡ bit n word }
+{
+    (word >> n) % 2 == 1
+}
+
 /// DISPSTAT of its flags and of what is kept.
 fn joined(vblank: bool, hblank: bool, vcount: bool, kept: u16) -> u16
     ensures { result ≡ flag 0 vblank + flag 1 hblank + flag 2 vcount + 8 * bits 3 13 kept }
@@ -73,7 +82,21 @@ impl Status {
     {
         Status {
             kept: 0,
-            matched: false,
+            vblank: false,
+            hblank: false,
+            vcount: false,
+        }
+    }
+
+    /// DISPSTAT of its bits, as it is read.
+    pub fn of_bits(word: u16) -> Status
+        ensures { result ≡ status_of_bits word }
+    {
+        Status {
+            kept: word & DisplayRegister::Dispstat.row().kept as u16,
+            vblank: is_set(0, word),
+            hblank: is_set(1, word),
+            vcount: is_set(2, word),
         }
     }
 
@@ -84,7 +107,7 @@ impl Status {
         self.kept
     }
 
-    /// A byte is written: the flag stays, and so does the other byte.
+    /// A byte is written: the flags stay, and so does the other byte.
     pub fn write(&mut self, byte: u8, value: u8)
         ensures { self.new ≡ status_written self.old byte value }
     {
@@ -100,17 +123,30 @@ impl Status {
     }
 
     /// DISPSTAT as it is read.
-    pub fn word(&self, scan: &Scan) -> u16
-        ensures { result ≡ status_word scan.now self.now }
+    pub fn word(&self) -> u16
+        ensures { result ≡ status_word self.now }
     {
-        joined(scan.in_vblank(), scan.blanked(), self.matched, self.kept)
+        joined(self.vblank, self.hblank, self.vcount, self.kept)
+    }
+
+    /// A line's H-blank.
+    pub fn blank(&mut self)
+        ensures { self.new ≡ status_blanked self.old }
+    {
+        self.hblank = true;
     }
 
     /// A line starts.
     pub fn start(&mut self, line: u16)
         ensures { self.new ≡ status_started line self.old }
     {
-        self.matched = line == self.setting();
+        if line == 192 {
+            self.vblank = true;
+        } else if line == 262 {
+            self.vblank = false;
+        }
+        self.hblank = false;
+        self.vcount = line == self.setting();
     }
 
     /// The bits of IF that a line's H-blank raises.

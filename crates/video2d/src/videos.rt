@@ -19,6 +19,10 @@ use std::alloc::{AllocError, Global};
 use std::marker::Model;
 use vram_banks::Vram;
 
+mod saved;
+
+pub use saved::saved_laws;
+
 /// What an event does beside what it changes here.
 #[derive(Clone, Copy)]
 pub struct Shown {
@@ -159,9 +163,9 @@ impl Video {
     /// A processor's DISPSTAT as it is read, both bytes.
     #[inline(always)]
     pub fn status_read(&self, proc: Proc) -> u16
-        ensures { result ≡ status_word self.now.scan (status_of self.now proc) }
+        ensures { result ≡ status_word (status_of self.now proc) }
     {
-        self.status(proc).word(&self.scan)
+        self.status(proc).word()
     }
 
     /// VCOUNT as it is read, both bytes.
@@ -177,7 +181,7 @@ impl Video {
         ensures { result ≡ video_byte proc self.now at }
     {
         match video_port(proc, at) {
-            VideoPort::Status(byte) => half_byte(byte, self.status(proc).word(&self.scan)),
+            VideoPort::Status(byte) => half_byte(byte, self.status(proc).word()),
             VideoPort::Count(byte) => half_byte(byte, self.scan.line()),
             VideoPort::OfEngine(which, at) => self.engine(which).byte(which, at),
             VideoPort::Power(byte) => half_byte(byte, self.power),
@@ -290,6 +294,8 @@ impl Video {
             self.a.step_points();
             self.b.step_points();
         }
+        self.nine.blank();
+        self.seven.blank();
         self.scan.advance();
     }
 

@@ -14,6 +14,7 @@ mod nexts;
 mod objects;
 mod ports;
 mod registers;
+mod saved;
 mod stage;
 mod stops;
 mod windows;

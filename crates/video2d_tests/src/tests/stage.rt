@@ -40,6 +40,11 @@ impl Stage {
         })
     }
 
+    /// The display.
+    pub fn video(&self) -> &Video {
+        &self.video
+    }
+
     /// Takes one line, and gives what was seen and what is wanted, 0 and 0 where nothing is asked.
     pub fn seen(&mut self, line: Line) -> (u64, u64) {
         match line {

@@ -1,0 +1,8 @@
+use Rattle.std.proofs.Common.{◌≡◌, drop}
+use Rattle.ds_state.specs.Formats.{bytes_written, written_each}
+use Rattle.video2d.specs.Saved.{pixel_format}
+use Rattle.video2d.proofs.screens.saved.put_pixels.Given as goal
+
+abbrev pub invariant-loop-pixel : goal.invariant-loop-pixel
+invariant-loop-pixel l =
+    written_each (bytes_written pixel_format) l.into (drop l.pixel-index l.pixels) ≡ written_each (bytes_written pixel_format) l.fn.into l.fn.pixels

@@ -1,0 +1,13 @@
+use Rattle.std.proofs.Common.{◌≡◌, ◌-◌, length}
+use Rattle.ds_state.specs.Loops.{with_front}
+use Rattle.ds_state.specs.Reading.{read_format, read_list}
+use Rattle.video2d.specs.Saved.{pixel_format}
+use Rattle.video2d.proofs.screens.saved.take_pixels.Given as goal
+
+abbrev pub invariant-loop : goal.invariant-loop
+invariant-loop l =
+    let reader = read_format pixel_format l.fn.at.0 in
+    record {
+      reads : with_front l.pixels.items (read_list reader (l.fn.count - l.counter) l.from) ≡ read_list reader l.fn.count l.fn.from;
+      long : length l.pixels.items ≡ l.counter;
+    }

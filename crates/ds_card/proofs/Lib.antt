@@ -1,3 +1,4 @@
+pub mod Begins
 pub mod InOrder
 pub mod KeptBits
 pub mod SavedLaws

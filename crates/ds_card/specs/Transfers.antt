@@ -1,4 +1,4 @@
-use Rattle.std.specs.Prelude.{ℕ, ◌≡◌, List, [], ◌∷◌, true, false, map, take, length, Option, Some, None, IsSome}
+use Rattle.std.specs.Prelude.{ℕ, ◌≡◌, ◌⊎◌, List, [], ◌∷◌, ◌++◌, true, false, map, take, length, Option, Some, None, IsSome}
 use Rattle.std.specs.List.{range_with_len}
 use Rattle.ds_base.specs.declared.memories.Width.{Width}
 use Rattle.ds_base.specs.declared.processors.Proc.{Proc}
@@ -38,3 +38,26 @@ abbrev pub TransfersInOrder : Type 0
 TransfersInOrder =
     (file : List ℕ) (s last : CardState) (words : List ℕ) (proc : Proc) (now : Tick)
     → IsCard s → s.transfer ≡ Some (transfer_begun proc now) → CardGoesOn file s words last → TakesInOrder file s last words
+
+-- ---- whatever follows
+
+-- one after another without an end, with the words that are taken, in order
+pub data CardPasses (file : List ℕ) : CardState → List ℕ → CardState → Type 0 where
+  passed_none : (s : CardState) → CardPasses file s [] s
+  passed_one : (s next last : CardState) (word : Option ℕ) (words : List ℕ)
+      → CardHappens file s word next → CardPasses file next words last → CardPasses file s (and_taken word words) last
+
+-- the words that were taken from a transfer's start on are first those of the transfer, up to a state of the card; that is the last one, or the
+-- transfer has ended in it
+pub record BeginsWithTransfer (file : List ℕ) (s last : CardState) (words : List ℕ) : Type 0 where
+  pub middle : CardState
+  pub own : List ℕ
+  pub others : List ℕ
+  pub both : words ≡ own ++ others
+  pub takes : TakesInOrder file s middle own
+  pub ends : ((others ≡ []) × (middle ≡ last)) ⊎ (is_busy middle ≡ false)
+
+abbrev pub BeginsInOrder : Type 0
+BeginsInOrder =
+    (file : List ℕ) (s last : CardState) (words : List ℕ) (proc : Proc) (now : Tick)
+    → IsCard s → s.transfer ≡ Some (transfer_begun proc now) → CardPasses file s words last → BeginsWithTransfer file s last words

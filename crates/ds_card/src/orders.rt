@@ -1,9 +1,11 @@
 //! In which order the words of a transfer are taken.
 
-ghost use Rattle.ds_card.specs.Transfers.{TransfersInOrder};
+ghost use Rattle.ds_card.specs.Transfers.{BeginsInOrder, TransfersInOrder};
 
 /// Does nothing; its contract states that from a transfer's start to at most its end, whoever writes, reads and lets events come, the
-/// words that its starter takes are the first of the transfer's words, in order and each once, and all of them where it has ended.
+/// words that its starter takes are the first of the transfer's words, in order and each once, and all of them where it has ended; and
+/// that whatever follows, the words taken begin with these.
 pub fn transfer_laws()
-    ensures { TransfersInOrder }
+    ensures order { TransfersInOrder }
+    ensures begins { BeginsInOrder }
 {}

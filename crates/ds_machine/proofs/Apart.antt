@@ -78,7 +78,7 @@ module _ (rank : ℕ) (a : actor.Actor) (s : MachineState) where
       }))
 
 -- whoever is neither ARM7 nor in its fence has none of its part in its rows
-pub none_of_seven : (a : actor.Actor) (s : MachineState) → a ≢ Processor Seven → (Fences a Seven → ⊥) → AreIn (untouched_by a s) parts_of_seven
+pub none_of_seven : (a : actor.Actor) (s : MachineState) → a ≢ Processor Seven → (Fences a Seven s → ⊥) → AreIn (untouched_by a s) parts_of_seven
 none_of_seven (Dma Seven channel) s other apart = absurd (apart refl)
 none_of_seven (Processor Seven) s other apart = absurd (other refl)
 none_of_seven (Dma Nine channel) s other apart = (refl, (refl, (refl, (refl, tt))))

@@ -250,15 +250,15 @@ behind_early tick rank s behind early =
 abbrev event_made : MachineState → IoState → MachineStep MachineState Shown LeftOut
 event_made s u = Makes (record s { io = u; events = s.events + 1 }) []
 
-event_alone : (s : MachineState) → IsSound s → is_quiet s.io ≡ true → reference_step 12 s ≡ event_made s (io_event Geometry s.io)
+event_alone : (s : MachineState) → IsSound s → is_quiet s.io ≡ true → reference_step 12 s ≡ event_made s (io_event [] Geometry s.io)
 event_alone s sound quiet =
     quiet_step s sound quiet
     ∙ ap (λ (b : Bool). event_made s (record s.io { gx = gx_finished s.io.gx; released = if b then tick_after s.io.gx.due s.io.released else s.io.released }))
     (sym (no_stall_ends s (quiet_parts s.io quiet).free))
 
-pub quiet_event : (old s : MachineState) (u : IoState) → old ≡ s → IsSound s → is_quiet s.io ≡ true → u ≡ io_event Geometry old.io → reference_step 12 s ≡ event_made old u
+pub quiet_event : (old s : MachineState) (u : IoState) → old ≡ s → IsSound s → is_quiet s.io ≡ true → u ≡ io_event [] Geometry old.io → reference_step 12 s ≡ event_made old u
 quiet_event old s u same sound quiet is =
-    event_alone s sound quiet ∙ ap (λ (m : MachineState). event_made m (io_event Geometry m.io)) (sym same) ∙ ap (event_made old) (sym is)
+    event_alone s sound quiet ∙ ap (λ (m : MachineState). event_made m (io_event [] Geometry m.io)) (sym same) ∙ ap (event_made old) (sym is)
 
 -- ---- before a step that may be taken
 

@@ -9,6 +9,7 @@ use Rattle.ds_base.specs.declared.left_out.Stop.{Stop}
 use Rattle.ds_base.specs.declared.processors.Proc.{Proc}
 use Rattle.ds_base.specs.declared.processors.Proc.TheVariants.{Nine, Seven}
 use Rattle.ds_base.specs.declared.ticks.Tick.{Tick}
+use Rattle.ds_card.specs.Cards.{card_due_for}
 use Rattle.ds_dma.specs.States.{DmaState, channel_due, dma_due}
 use Rattle.ds_dma.specs.declared.channels.Unit.{Unit as DmaUnit}
 use Rattle.ds_dma.proofs.Turns.{all_later}
@@ -17,14 +18,14 @@ use Rattle.ds_map.specs.Accesses.{map_value}
 use Rattle.ds_map.specs.Maps.{MapState}
 use Rattle.ds_map.proofs.Waiting.{unit_waits_most}
 use Rattle.ds_map.specs.Moves.{unit_waits, next_unit, map_after_unit, unit_read, unit_refusal, unit_taken}
-use Rattle.ds_map.proofs.Later.{map_read_unchanged, map_write_goes}
+use Rattle.ds_map.proofs.Later.{map_read_leaves, map_write_goes}
 use Rattle.ds_ports.specs.Dues.{held_due, io_due}
-use Rattle.ds_ports.specs.Happenings.{IsIo, IsTold, Goes, IsUnchanged, HasOnlyLaterEvents, ReschedulesEach}
+use Rattle.ds_ports.specs.Happenings.{IsIo, IsTold, Goes, IsUnchanged, HasOnlyLaterEvents, LeavesTransfer, ReschedulesEach}
 use Rattle.ds_ports.proofs.HeldDues.{held_later}
 use Rattle.ds_ports.specs.ProcessorIo.{ProcessorIoState}
-use Rattle.ds_ports.specs.Io.{IoState, io_of, is_held}
+use Rattle.ds_ports.specs.Io.{IoState, channel_moved, io_of, is_held}
 use Rattle.ds_ports.proofs.Events.{MovedGoes, moved_goes, some_due}
-use Rattle.ds_ports.proofs.Later.{AreUnchanged, all_io_dues, goes_io, of_both, processor_io_is, still_later}
+use Rattle.ds_ports.proofs.Later.{ReadLeaves, all_io_dues, goes_io, of_both, processor_io_is, still_later}
 use Rattle.ds_ports.proofs.Told.{told_on}
 use Rattle.ds_runs.specs.Runs.{MachineStep, Makes, Stops}
 use Rattle.ds_runs.specs.declared.actors.Actor.TheVariants.{Dma, Timer}
@@ -37,7 +38,7 @@ use Rattle.ds_machine.specs.Sound.{HasSoundParts}
 use Rattle.ds_machine.specs.States.{MachineState, ProcessorState, counts_of}
 use Rattle.ds_machine.proofs.Ticks.{after_unit}
 use Rattle.ds_machine.specs.Steps.{due_past_unit, is_blocked, is_halted, map_of, processor_of, with_map, with_processor}
-use Rattle.ds_machine.proofs.Moves.{Moves, left_after, other_held, unchanged_held, unchanged_io_dues, unchanged_io, moves_of, same_keys, then_io_dues}
+use Rattle.ds_machine.proofs.Moves.{Moves, left_after, other_held, read_held, read_io, moves_of, same_keys, then_io_dues}
 use Rattle.ds_machine.proofs.Rooms.{unit_within}
 use Rattle.ds_machine.proofs.Wakes.{halted_blocks, put_beside, put_counts, put_other, put_processor_io}
 use Rattle.video2d.specs.Videos.{VideoState}
@@ -71,13 +72,13 @@ module _ (rank : ℕ) (proc : Proc) (now : Tick) (unit : DmaUnit) (s : MachineSt
   made_by : (refusal : Option Stop) (made : MachineState) (outs : List Shown)
       → moved_by rank proc now refusal (with_map proc s (map_after_unit refusal proc now unit (map_of proc s))) ≡ Makes made outs → made ≡ machine_after_unit proc now unit s
   made_by None made outs h = sym (same_makes (machine_after_unit proc now unit s) made [] outs h).0
-  made_by (Some stop) made outs h = absurd (not_both made (with_map proc s (unit_read proc unit (map_of proc s))) outs _ (sym h))
+  made_by (Some stop) made outs h = absurd (not_both made (with_map proc s (unit_read proc now unit (map_of proc s))) outs _ (sym h))
 
   left_by : (refusal : Option Stop) (left : MachineState) (stop : LeftOut)
       → (let step : MachineStep MachineState Shown LeftOut = moved_by rank proc now refusal (with_map proc s (map_after_unit refusal proc now unit (map_of proc s))) in step ≡ Stops stop left)
-      → with_map proc s (unit_read proc unit (map_of proc s)) ≡ left
+      → with_map proc s (unit_read proc now unit (map_of proc s)) ≡ left
   left_by None left stop h = absurd (not_both (machine_after_unit proc now unit s) left [] stop h)
-  left_by (Some why) left stop h = (same_stops (with_map proc s (unit_read proc unit (map_of proc s))) left _ stop h).1
+  left_by (Some why) left stop h = (same_stops (with_map proc s (unit_read proc now unit (map_of proc s))) left _ stop h).1
 
 -- its step moves its unit
 pub channel_made : (rank : ℕ) (proc : Proc) (now : Tick) (s made : MachineState) (outs : List Shown) → channel_step rank proc (Some now) s ≡ Makes made outs
@@ -88,7 +89,7 @@ channel_made rank proc now s made outs h =
 -- one that stops leaves all as it was after the read
 pub channel_unchanged : (rank : ℕ) (proc : Proc) (now : Tick) (s left : MachineState) (stop : LeftOut)
     → (let step : MachineStep MachineState Shown LeftOut = channel_step rank proc (Some now) s in step ≡ Stops stop left)
-    → with_map proc s (unit_read proc (next_unit s.io proc) (map_of proc s)) ≡ left
+    → with_map proc s (unit_read proc now (next_unit s.io proc) (map_of proc s)) ≡ left
 channel_unchanged rank proc now s left stop h =
     let unit = next_unit s.io proc in left_by rank proc now unit s (unit_refusal proc now unit (map_of proc s)) left stop h
 
@@ -104,17 +105,18 @@ unit_counts proc now unit s =
 
 -- ---- where it stops after the read
 
-pub read_unchanged : (proc : Proc) (unit : DmaUnit) (s : MachineState) → AreUnchanged s.io (unit_read proc unit (map_of proc s)).io
-read_unchanged proc unit s = map_read_unchanged proc (map_of proc s) unit.from unit.width
+pub read_left : (proc : Proc) (now : Tick) (unit : DmaUnit) (s : MachineState) → ReadLeaves proc now s.io (unit_read proc now unit (map_of proc s)).io
+read_left proc now unit s = map_read_leaves proc now (map_of proc s) unit.from unit.width
 
-pub read_moves : (tick : Tick) (proc : Proc) (unit : DmaUnit) (s : MachineState) → Moves tick s (with_map proc s (unit_read proc unit (map_of proc s)))
+pub read_moves : (tick : Tick) (proc : Proc) (unit : DmaUnit) (s : MachineState) → Moves tick s (with_map proc s (unit_read proc tick unit (map_of proc s)))
 read_moves tick proc unit s =
-    let left = read_unchanged proc unit s in
-    moves_of tick s (with_map proc s (unit_read proc unit (map_of proc s))) (inl refl) (unchanged_io_dues tick s.io (unit_read proc unit (map_of proc s)).io left)
-    (λ each. inl (left_due proc s (unit_read proc unit (map_of proc s)) each (unchanged_held s.io (unit_read proc unit (map_of proc s)).io left each)))
+    let left = read_left proc tick unit s in
+    let read = unit_read proc tick unit (map_of proc s) in
+    moves_of tick s (with_map proc s read) (inl refl) left.each (λ each. inl (left_due proc s read each (read_held proc tick s.io read.io left each)))
 
-pub read_sound : (proc : Proc) (unit : DmaUnit) (s : MachineState) → HasSoundParts s → HasSoundParts (with_map proc s (unit_read proc unit (map_of proc s)))
-read_sound proc unit s sound = record { io = unchanged_io s.io (unit_read proc unit (map_of proc s)).io sound.io (read_unchanged proc unit s); keys = sound.keys }
+pub read_sound : (proc : Proc) (now : Tick) (unit : DmaUnit) (s : MachineState) → HasSoundParts s → HasSoundParts (with_map proc s (unit_read proc now unit (map_of proc s)))
+read_sound proc now unit s sound =
+    record { io = read_io proc now s.io (unit_read proc now unit (map_of proc s)).io sound.io (read_left proc now unit s); keys = sound.keys }
 
 -- ---- where it moves its unit
 
@@ -153,10 +155,10 @@ module _ (proc : Proc) (channel : ℕ) (now : Tick) (unit : DmaUnit) (s : Machin
     (due : io_due (Dma proc channel) s.io ≡ Some now)
     (timers : (which : ℕ) → which < 4 → IsLater now (io_due (Timer proc which) s.io)) where
   abbrev read : IoState
-  read = (unit_read proc unit (map_of proc s)).io
+  read = (unit_read proc now unit (map_of proc s)).io
 
-  left : AreUnchanged s.io read
-  left = read_unchanged proc unit s
+  left : ReadLeaves proc now s.io read
+  left = read_left proc now unit s
 
   abbrev taken : MapState
   taken = unit_taken proc now unit (map_of proc s)
@@ -164,11 +166,11 @@ module _ (proc : Proc) (channel : ℕ) (now : Tick) (unit : DmaUnit) (s : Machin
   abbrev written : MapState
   written = map_after_unit None proc now unit (map_of proc s)
 
-  read_io : IsIo read
-  read_io = unchanged_io s.io read sound.io left
+  read_is : IsIo read
+  read_is = read_io proc now s.io read sound.io left
 
   moves : MovedGoes proc now read taken.io
-  moves = moved_goes proc now (unit_waits proc unit (map_of proc s)) read (unit_waits_most proc unit (map_of proc s)) read_io (same_some proc s.io read (left.processor_io proc) (channel_is_due proc channel now s.io due))
+  moves = moved_goes proc now (unit_waits proc now unit (map_of proc s)) read (unit_waits_most proc now unit (map_of proc s)) read_is (same_some proc s.io read (left.processor_io proc) (channel_is_due proc channel now s.io due))
 
   is_quiet : HasOnlyLaterEvents now (io_of taken.io proc)
   is_quiet = record {
@@ -182,7 +184,7 @@ module _ (proc : Proc) (channel : ℕ) (now : Tick) (unit : DmaUnit) (s : Machin
 
   dues : ReschedulesEach now s.io written.io
   dues =
-      then_io_dues now s.io read written.io (unchanged_io_dues now s.io read left)
+      then_io_dues now s.io read written.io left.each
       (then_io_dues now read taken.io written.io moves.dues (all_io_dues proc now taken.io written.io goes))
 
   other : IsUnchanged (io_of s.io (other_proc proc)) (io_of written.io (other_proc proc))
@@ -192,12 +194,12 @@ module _ (proc : Proc) (channel : ℕ) (now : Tick) (unit : DmaUnit) (s : Machin
 
   told : IsTold (io_of s.io (other_proc proc)).irq (io_of written.io (other_proc proc)).irq
   told =
-      told_on (io_of s.io (other_proc proc)).irq (io_of read (other_proc proc)).irq (io_of written.io (other_proc proc)).irq (left.told (other_proc proc))
+      told_on (io_of s.io (other_proc proc)).irq (io_of read (other_proc proc)).irq (io_of written.io (other_proc proc)).irq left.told
       (subst (λ (o : ProcessorIoState). IsTold o.irq (io_of written.io (other_proc proc)).irq) moves.other goes.told)
 
   -- the other processor is held as before
   other_as_before : is_held written.io (other_proc proc) ≡ is_held s.io (other_proc proc)
-  other_as_before = other_held proc now taken.io written.io goes ∙ moved_held ∙ unchanged_held s.io read left (other_proc proc) where
+  other_as_before = other_held proc now taken.io written.io goes ∙ moved_held ∙ read_held proc now s.io read left (other_proc proc) where
     moved_held : is_held taken.io (other_proc proc) ≡ is_held read (other_proc proc)
     moved_held = held_alike (other_proc proc) read taken.io moves.other moves.gx
 
@@ -274,3 +276,13 @@ module _ (proc : Proc) (channel : ℕ) (now : Tick) (unit : DmaUnit) (s : Machin
   unit_released =
       let b = put_beside proc (with_map proc s written) past in
       ap (λ (u : IoState). u.released) b.io ∙ goes.geometry.released ∙ moves.released ∙ left.released
+
+  -- the transfer of the card that the other processor started is due as it was
+  pub unit_card : LeavesTransfer proc s.io.card (machine_after_unit proc now unit s).io.card
+  unit_card =
+      let b = put_beside proc (with_map proc s written) past in
+      ap (λ (u : IoState). card_due_for (other_proc proc) u.card) b.io ∙ goes.card ∙ ap (card_due_for (other_proc proc)) (moved_card proc read (unit_waits proc now unit (map_of proc s)))
+      ∙ left.card where
+        moved_card : (proc : Proc) (u : IoState) (waits : ℕ) → (channel_moved proc now waits u).card ≡ u.card
+        moved_card Nine u waits = refl
+        moved_card Seven u waits = refl

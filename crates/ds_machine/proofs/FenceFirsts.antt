@@ -4,6 +4,8 @@ use Rattle.ds_base.specs.declared.processors.Proc.{Proc}
 use Rattle.ds_base.specs.declared.processors.Proc.TheVariants.{Nine, Seven}
 use Rattle.ds_base.specs.declared.ticks.Due.{Due}
 use Rattle.ds_base.specs.declared.ticks.Tick.{Tick}
+use Rattle.ds_card.specs.Cards.{card_due_for, card_starter}
+use Rattle.ds_card.proofs.Schedules.{due_for_starter, starter_of_due}
 use Rattle.ds_ports.specs.Acting.{acting_io_due}
 use Rattle.ds_runs.specs.Actors.{actor_of}
 use Rattle.ds_runs.specs.Order.{due_with_rank, earlier, first_from}
@@ -29,31 +31,44 @@ use Rattle.ds_machine.proofs.DueTicks.{alone, own_tick}
 
 pub nine_by_parts : (s : MachineState) → first_from 0 (fence_dues s Nine)
     ≡ earlier (due_with_rank 0 (keys_due s.keys)) (earlier (due_with_rank 1 (Some (scan_due_tick s.io.video.scan)))
-    (earlier (first_from 2 (timer_dues s.io Nine)) (earlier (due_with_rank 12 (acting_io_due Geometry s.io)) (first_from 14 (channel_dues s.io Nine)))))
+    (earlier (first_from 2 (timer_dues s.io Nine)) (earlier (due_with_rank 12 (acting_io_due Geometry s.io))
+    (earlier (due_with_rank 13 (card_due_for Nine s.io.card)) (first_from 14 (channel_dues s.io Nine))))))
 unfolding fence_dues
 nine_by_parts s =
     let timers = timer_dues s.io Nine in
     let channels = channel_dues s.io Nine in
     let rest = None ∷ None ∷ None ∷ None ∷ None ∷ None ∷ [] in
     let front : Option Due → Option Due = λ d. earlier (due_with_rank 0 (keys_due s.keys)) (earlier (due_with_rank 1 (Some (scan_due_tick s.io.video.scan))) d) in
-    ap front (first_of_append 2 timers (None ∷ None ∷ None ∷ None ∷ None ∷ None ∷ acting_io_due Geometry s.io ∷ None ∷ channels ++ rest)
-    ∙ ap (λ (d : Option Due). earlier (first_from 2 timers) (earlier (due_with_rank 12 (acting_io_due Geometry s.io)) d))
+    ap front (first_of_append 2 timers (None ∷ None ∷ None ∷ None ∷ None ∷ None ∷ acting_io_due Geometry s.io ∷ card_due_for Nine s.io.card ∷ channels ++ rest)
+    ∙ ap (λ (d : Option Due). earlier (first_from 2 timers) (earlier (due_with_rank 12 (acting_io_due Geometry s.io)) (earlier (due_with_rank 13 (card_due_for Nine s.io.card)) d)))
     (first_of_append 14 channels rest ∙ alone (first_from 14 channels)))
 
 pub seven_by_parts : (s : MachineState) → first_from 0 (fence_dues s Seven)
     ≡ earlier (due_with_rank 0 (keys_due s.keys)) (earlier (due_with_rank 1 (Some (scan_due_tick s.io.video.scan)))
-    (earlier (first_from 6 (timer_dues s.io Seven)) (first_from 18 (channel_dues s.io Seven))))
+    (earlier (first_from 6 (timer_dues s.io Seven)) (earlier (due_with_rank 13 (card_due_for Seven s.io.card)) (first_from 18 (channel_dues s.io Seven)))))
 unfolding fence_dues
 seven_by_parts s =
     let timers = timer_dues s.io Seven in
     let channels = channel_dues s.io Seven in
     let front : Option Due → Option Due = λ d. earlier (due_with_rank 0 (keys_due s.keys)) (earlier (due_with_rank 1 (Some (scan_due_tick s.io.video.scan))) d) in
-    ap front (first_of_append 6 timers (None ∷ None ∷ None ∷ None ∷ None ∷ None ∷ None ∷ None ∷ channels ++ None ∷ None ∷ [])
-    ∙ ap (λ (d : Option Due). earlier (first_from 6 timers) d) (first_of_append 18 channels (None ∷ None ∷ []) ∙ alone (first_from 18 channels)))
+    ap front (first_of_append 6 timers (None ∷ None ∷ None ∷ card_due_for Seven s.io.card ∷ None ∷ None ∷ None ∷ None ∷ channels ++ None ∷ None ∷ [])
+    ∙ ap (λ (d : Option Due). earlier (first_from 6 timers) (earlier (due_with_rank 13 (card_due_for Seven s.io.card)) d)) (first_of_append 18 channels (None ∷ None ∷ []) ∙ alone (first_from 18 channels)))
+
+-- whom an actor fences off is told by the card alone
+pub fences_as : (a : actor.Actor) (proc : Proc) (s t : MachineState) → t.io.card ≡ s.io.card → Fences a proc t → Fences a proc s
+fences_as KeyScript proc s t e f = f
+fences_as Video proc s t e f = f
+fences_as (Timer each number) proc s t e f = f
+fences_as Divider proc s t e f = f
+fences_as SquareRoot proc s t e f = f
+fences_as Geometry proc s t e f = f
+fences_as Card proc s t e f = ap card_starter (sym e) ∙ f
+fences_as (Dma each channel) proc s t e f = f
+fences_as (Processor each) proc s t e f = f
 
 -- ---- it is the fence
 
-fences_there : (s : MachineState) (proc : Proc) (a : actor.Actor) (at : Tick) → fence_due s proc a ≡ Some at → (acting_due a s ≡ Some at) × Fences a proc
+pub fences_there : (s : MachineState) (proc : Proc) (a : actor.Actor) (at : Tick) → fence_due s proc a ≡ Some at → (acting_due a s ≡ Some at) × Fences a proc s
 fences_there s proc KeyScript at h = (h, tt)
 fences_there s proc Video at h = (h, tt)
 fences_there s Nine (Timer Nine number) at h = (h, refl)
@@ -64,7 +79,7 @@ fences_there s proc Divider at h = absurd (none-some at h)
 fences_there s proc SquareRoot at h = absurd (none-some at h)
 fences_there s Nine Geometry at h = (h, refl)
 fences_there s Seven Geometry at h = absurd (none-some at h)
-fences_there s proc Card at h = absurd (none-some at h)
+fences_there s proc Card at h = (let started = starter_of_due s.io.card proc at h in (sym (due_for_starter s.io.card proc started) ∙ h, started))
 fences_there s Nine (Dma Nine channel) at h = (h, refl)
 fences_there s Seven (Dma Nine channel) at h = absurd (none-some at h)
 fences_there s Nine (Dma Seven channel) at h = absurd (none-some at h)
@@ -79,14 +94,14 @@ channel_own : (s : MachineState) (proc each : Proc) (channel : ℕ) (at : Tick) 
 channel_own s Nine each channel at e h = subst (λ (p : Proc). fence_due s Nine (Dma p channel) ≡ Some at) (sym e) (subst (λ (p : Proc). acting_due (Dma p channel) s ≡ Some at) e h)
 channel_own s Seven each channel at e h = subst (λ (p : Proc). fence_due s Seven (Dma p channel) ≡ Some at) (sym e) (subst (λ (p : Proc). acting_due (Dma p channel) s ≡ Some at) e h)
 
-there_fences : (s : MachineState) (proc : Proc) (a : actor.Actor) (at : Tick) → acting_due a s ≡ Some at → Fences a proc → fence_due s proc a ≡ Some at
+pub there_fences : (s : MachineState) (proc : Proc) (a : actor.Actor) (at : Tick) → acting_due a s ≡ Some at → Fences a proc s → fence_due s proc a ≡ Some at
 there_fences s proc KeyScript at h f = h
 there_fences s proc Video at h f = h
 there_fences s proc (Timer each number) at h f = timer_own s proc each number at f h
 there_fences s proc Divider at h f = absurd f
 there_fences s proc SquareRoot at h f = absurd f
 there_fences s proc Geometry at h f = subst (λ (p : Proc). fence_due s p Geometry ≡ Some at) (sym f) h
-there_fences s proc Card at h f = absurd (none-some at h)
+there_fences s proc Card at h f = due_for_starter s.io.card proc f ∙ h
 there_fences s proc (Dma each channel) at h f = channel_own s proc each channel at f h
 there_fences s proc (Processor each) at h f = absurd f
 
@@ -106,7 +121,7 @@ fence_is s proc first h =
     let lt : first.rank < 24 = omega (arith, low, all) in
     let k = fences_there s proc (actor_of first.rank) first.tick (sym (by_actor s proc first.rank lt) ∙ l.there) in
     record { rank = first.rank; there = acting_of_rank s first.rank lt ∙ k.0; fences = k.1; least = least } where
-      least : (other : ℕ) (at : Tick) → due_at (acting_dues s) other ≡ Some at → Fences (actor_of other) proc → first.tick.0 ≤ at.0
+      least : (other : ℕ) (at : Tick) → due_at (acting_dues s) other ≡ Some at → Fences (actor_of other) proc s → first.tick.0 ≤ at.0
       least other at there f =
           let lt = acting_low s other at there in
           let due = sym (acting_of_rank s other lt) ∙ there in

@@ -1,4 +1,4 @@
-use Rattle.std.proofs.Common.{ℕ, ◌≡◌, ◌⊎◌, inl, inr, ◌≤◌, ◌<◌, ◌+◌, ◌*◌, List, [], ◌∷◌, ◌++◌, length, Option, Some, None, option_map, refl, sym, ◌∙◌, ap, subst, arith}
+use Rattle.std.proofs.Common.{ℕ, ◌≡◌, ◌⊎◌, inl, inr, ◌≤◌, ◌<◌, ◌+◌, ◌*◌, List, [], ◌++◌, length, Option, Some, None, option_map, refl, sym, ◌∙◌, ap, subst, arith}
 use Rattle.std.proofs.lemmas.List.{length-append}
 use Rattle.ds_base.specs.declared.left_out.LeftOut.{LeftOut}
 use Rattle.ds_base.specs.declared.ticks.Tick.{Tick}
@@ -7,7 +7,7 @@ use Rattle.ds_runs.specs.Runs.{Ending, IsLeast, Makes, Runs, more, over, stops}
 use Rattle.ds_runs.specs.declared.actors.Actor as actor
 use Rattle.ds_runs.specs.declared.actors.Actor.TheVariants.{Video}
 use Rattle.ds_machine.specs.Frames.{FollowFrames, FramesAreFew, WholeFrame, framed_of, last_frame}
-use Rattle.ds_machine.specs.Reference.{Shown, due_by, dues_of, reference, reference_step, shown_at}
+use Rattle.ds_machine.specs.Reference.{Shown, due_by, dues_of, reference, reference_step}
 use Rattle.ds_machine.specs.Sound.{HasSoundParts}
 use Rattle.ds_machine.specs.States.{MachineState}
 use Rattle.ds_machine.proofs.Frames.{step_follows}

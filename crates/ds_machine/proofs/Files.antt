@@ -1,34 +1,46 @@
-use Rattle.std.proofs.Common.{ℕ, ◌≡◌, ◌≤◌, ◌^◌, inl, inr, Bool, true, false, if◌then◌else◌, List, Option, Some, None, refl, sym, ◌∙◌, ap, subst, arith, []}
+use Rattle.std.proofs.Common.{ℕ, ◌≡◌, ◌≤◌, ◌^◌, inl, inr, Bool, true, false, true≢false, if◌then◌else◌, List, Option, Some, None, refl, sym, ◌∙◌, ap, subst, arith, []}
 use Rattle.ds_base.specs.declared.processors.Proc.{Proc}
 use Rattle.ds_base.specs.declared.processors.Proc.TheVariants.{Nine, Seven}
 use Rattle.ds_base.specs.declared.ticks.Tick.{Tick}
+use Rattle.ds_base.proofs.Choices.{true_or_false}
+use Rattle.ds_ports.specs.Io.{io_event}
 use Rattle.ds_runs.specs.Actors.{actor_of}
 use Rattle.ds_runs.specs.Runs.{MachineStep, Makes, Stops}
 use Rattle.ds_runs.specs.declared.actors.Actor as actor
-use Rattle.ds_runs.specs.declared.actors.Actor.TheVariants.{KeyScript, Dma, Processor}
+use Rattle.ds_runs.specs.declared.actors.Actor.TheVariants.{KeyScript, Card, Dma, Processor}
 use Rattle.ds_base.specs.declared.left_out.LeftOut.{LeftOut}
 use Rattle.ds_machine.specs.Acting.{acting_dues}
+use Rattle.ds_machine.specs.Channels.{one_event}
 use Rattle.ds_machine.specs.Counting.{RunsWithSome, last_limit}
 use Rattle.ds_machine.specs.Lagging as lagging
 use Rattle.ds_machine.specs.Lagging.{ActsUnobserving, CatchesUp, CatchesUpFor, CatchesUpIf, ComesBeforeAll, TakesGeometry, observes_by}
 use Rattle.ds_machine.specs.Private.{IsAhead, IsBelowFence, IsPrivate, rank_of}
-use Rattle.ds_machine.specs.Reference.{Shown, awake, due_by, dues_of, processor_due, reference_step, step_by}
+use Rattle.ds_machine.specs.Reference.{Shown, after_event, awake, due_by, dues_of, processor_due, reference_step, step_by}
 use Rattle.ds_machine.specs.Sound.{HasSoundParts, IsSound}
 use Rattle.ds_machine.specs.States.{MachineState, with_file}
 use Rattle.ds_machine.specs.Statuses.{HasBothStatuses, left_by}
-use Rattle.ds_machine.specs.StepAnswers.{Steps, stepped_of}
-use Rattle.ds_machine.specs.Steps.{ended, goes_on, machine_settled, processor_of, tick_of, wakes, woken_one}
+use Rattle.ds_machine.specs.StepAnswers.{stepped_of}
+use Rattle.ds_machine.specs.Steps.{ended, goes_on, machine_settled, processor_of, tick_of, wakes, with_io, woken_one}
 use Rattle.ds_machine.specs.Touched.{CartFile, StepsKeepFile, machine_graft, step_with, untouched_by}
 use Rattle.ds_machine.specs.TurnSteps.{BelongsToTurn, HasLimit, IsFirst, MayAct, MayStep, TakesSteps, more_steps, no_steps}
 use Rattle.ds_machine.specs.declared.answers.Done as answer
 use Rattle.ds_machine.specs.declared.answers.Done.TheVariants as answers
 use Rattle.ds_machine.specs.declared.next_events.First.{First}
 use Rattle.ds_machine.proofs.Apart.{picked}
+use Rattle.ds_machine.proofs.FenceFirsts.{fences_as}
 use Rattle.ds_machine.proofs.Running.{running_taken, steps_keep_running}
 use Rattle.ds_machine.proofs.Touched.{comes_to_same}
 
--- With another file a machine is due when it was, and its actors' steps come to the same: none of them looks at it. What is said of `s` is said of
--- `with_file file s`, and the other way round, since the machine with its own file is itself.
+-- With another file a machine is due when it was, and its actors' steps come to the same: none but the card looks at it. What is said of `s` is said
+-- of `with_file file s`, and the other way round, since the machine with its own file is itself.
+
+abbrev pub is_card : actor.Actor → Bool
+is_card Card = true
+is_card _ = false
+
+pub no_card : (proc : Proc) → is_card (actor_of (rank_of proc)) ≡ false
+no_card Nine = refl
+no_card Seven = refl
 
 abbrev Step : Type 0
 Step = MachineStep MachineState Shown LeftOut
@@ -43,7 +55,7 @@ module _ (file : List ℕ) where
   processor_due_put s Nine = refl
   processor_due_put s Seven = refl
 
-  due_put : (a : actor.Actor) (s : MachineState) → due_by a (put s) ≡ due_by a s
+  pub due_put : (a : actor.Actor) (s : MachineState) → due_by a (put s) ≡ due_by a s
   due_put KeyScript s = refl
   due_put (Processor proc) s = processor_due_put s proc
   due_put _ s = refl
@@ -62,16 +74,17 @@ module _ (file : List ℕ) where
 
   -- ---- steps
 
-  none_uses : (a : actor.Actor) (s : MachineState) → (untouched_by a s).rest CartFile ≡ true
-  none_uses (Dma Nine channel) s = refl
-  none_uses (Dma Seven channel) s = refl
-  none_uses (Processor Nine) s = refl
-  none_uses (Processor Seven) s = refl
-  none_uses _ s = refl
+  none_uses : (a : actor.Actor) (s : MachineState) → is_card a ≡ false → (untouched_by a s).rest CartFile ≡ true
+  none_uses Card s other = absurd (true≢false other)
+  none_uses (Dma Nine channel) s other = refl
+  none_uses (Dma Seven channel) s other = refl
+  none_uses (Processor Nine) s other = refl
+  none_uses (Processor Seven) s other = refl
+  none_uses _ s other = refl
 
-  step_put : (rank : ℕ) (a : actor.Actor) (s : MachineState) → step_by rank a (put s) ≡ step_with put (step_by rank a s)
-  step_put rank a s = comes_to_same rank a s put (record { shared = refl; vram = refl }) (λ left.
-      λ i. record (machine_graft (untouched_by a s) (put s) left) { file = picked ((untouched_by a s).rest CartFile) file left.file (none_uses a s) i })
+  step_put : (rank : ℕ) (a : actor.Actor) (s : MachineState) → is_card a ≡ false → step_by rank a (put s) ≡ step_with put (step_by rank a s)
+  step_put rank a s other = comes_to_same rank a s put (record { shared = refl; vram = refl }) (λ left.
+      λ i. record (machine_graft (untouched_by a s) (put s) left) { file = picked ((untouched_by a s).rest CartFile) file left.file (none_uses a s other) i })
 
   go_put : (proc : Proc) (tick : Tick) (s : MachineState) → goes_on proc tick (put s) ≡ put (goes_on proc tick s)
   go_put Nine tick s = refl
@@ -95,27 +108,36 @@ module _ (file : List ℕ) where
   awake_put (Some tick) (Makes next outs) = ap (λ (m : MachineState). (let step : Step = Makes m outs in step)) (ended_put tick next)
   awake_put (Some tick) (Stops stop left) = refl
 
-  pub reference_put : (rank : ℕ) (s : MachineState) → reference_step rank (put s) ≡ step_with put (reference_step rank s)
-  reference_put rank s =
+  pub reference_put : (rank : ℕ) (s : MachineState) → is_card (actor_of rank) ≡ false → reference_step rank (put s) ≡ step_with put (reference_step rank s)
+  reference_put rank s other =
       let a = actor_of rank in
       ap (λ (due : Option Tick). awake due (step_by rank a (put s))) (due_put a s)
-      ∙ ap (awake (due_by a s)) (step_put rank a s)
+      ∙ ap (awake (due_by a s)) (step_put rank a s other)
       ∙ awake_put (due_by a s) (step_by rank a s)
 
   kept_put : (came : Step) → came ≡ step_with put came → (left_by came).file ≡ file
   kept_put (Makes next outs) h = ap (λ (step : Step). (left_by step).file) h
   kept_put (Stops stop left) h = ap (λ (step : Step). (left_by step).file) h
 
-  pub makes_put : (rank : ℕ) (s next : MachineState) (outs : List Shown) → reference_step rank s ≡ Makes next outs → reference_step rank (put s) ≡ Makes (put next) outs
-  makes_put rank s next outs h = reference_put rank s ∙ ap (step_with put) h
+  pub makes_put : (rank : ℕ) (s next : MachineState) (outs : List Shown) → is_card (actor_of rank) ≡ false → reference_step rank s ≡ Makes next outs
+      → reference_step rank (put s) ≡ Makes (put next) outs
+  makes_put rank s next outs other h = reference_put rank s other ∙ ap (step_with put) h
 
   stepped_put : (old new : MachineState) (done : answer.Done) → step_with put (stepped_of old done new) ≡ stepped_of (put old) done (put new)
   stepped_put old new answers.Made = refl
   stepped_put old new (answers.Frame swapped) = refl
   stepped_put old new (answers.Stopped left) = refl
 
-  pub steps_put : (rank : ℕ) (old new : MachineState) (done : answer.Done) → Steps rank old done new → Steps rank (put old) done (put new)
-  steps_put rank old new done h = reference_put rank old ∙ ap (step_with put) h ∙ stepped_put old new done
+  -- so what a step comes to on a machine without its file, it comes to with it
+  pub awake_with : (rank : ℕ) (a : actor.Actor) (tick : Tick) (old new : MachineState) (done : answer.Done) → is_card a ≡ false
+      → awake (Some tick) (step_by rank a old) ≡ stepped_of old done new → awake (Some tick) (step_by rank a (put old)) ≡ stepped_of (put old) done (put new)
+  awake_with rank a tick old new done other h =
+      ap (awake (Some tick)) (step_put rank a old other) ∙ awake_put (Some tick) (step_by rank a old) ∙ ap (step_with put) h ∙ stepped_put old new done
+
+  -- the event of an actor behind the ports, by what it left of the units
+  pub event_with : (a : actor.Actor) (tick : Tick) (old new : MachineState) → new ≡ ended tick (one_event (with_io old (io_event file a old.io)))
+      → put new ≡ ended tick (after_event a (put old))
+  event_with a tick old new h = ap put h ∙ sym (ended_put tick (one_event (with_io old (io_event file a old.io))))
 
   -- ---- what holds of it
 
@@ -134,7 +156,7 @@ module _ (file : List ℕ) where
 
   below_put : (s : MachineState) (tick : Tick) (proc : Proc) → IsBelowFence s proc tick → IsBelowFence (put s) proc tick
   unfolding acting_dues
-  below_put s tick proc is = is
+  below_put s tick proc is = λ rank at there f. is rank at there (fences_as (actor_of rank) proc s (put s) refl f)
 
   pub ahead_put : (s : MachineState) (proc : Proc) → IsAhead s proc → IsAhead (put s) proc
   ahead_put s Nine is = record { private = private_put s Nine is.private; below = below_put s (tick_of s.nine.processor) Nine is.below }
@@ -196,7 +218,7 @@ module _ (file : List ℕ) where
   takes_put : (tick rank : ℕ) (s now : MachineState) → TakesGeometry tick rank s now → TakesGeometry tick rank (put s) (put now)
   takes_put tick rank s now (lagging.no_geometry start) = lagging.no_geometry (put start)
   takes_put tick rank s now (lagging.more_geometry start before next earlier behind makes) =
-      lagging.more_geometry (put start) (put before) (put next) (takes_put tick rank start before earlier) behind (makes_put 12 before next [] makes)
+      lagging.more_geometry (put start) (put before) (put next) (takes_put tick rank start before earlier) behind (makes_put 12 before next [] refl makes)
 
   pub catches_put : (tick rank : ℕ) (s caught : MachineState) → CatchesUp tick rank s caught → CatchesUp tick rank (put s) (put caught)
   catches_put tick rank s caught k = record { steps = takes_put tick rank s caught k.steps; level = k.level }
@@ -218,7 +240,7 @@ module _ (file : List ℕ) where
   turn_put until proc s next (no_steps start) = no_steps (put start)
   turn_put until proc s next (more_steps start before caught last earlier b catches makes) =
       more_steps (put start) (put before) (put caught) (put last) (turn_put until proc start before earlier) (belongs_put until before proc b)
-      (catches_own before caught proc catches) (makes_put (rank_of proc) caught last [] makes)
+      (catches_own before caught proc catches) (makes_put (rank_of proc) caught last [] (no_card proc) makes)
 
 -- ---- a machine that goes on with some file
 
@@ -233,14 +255,27 @@ some_taken tick rank s now before early takes running =
           (takes_put file tick rank s now takes) running.1,
     )
 
-pub some_after : (rank : ℕ) (s next : MachineState) (outs : List Shown) → RunsWithSome s → MayStep s rank → reference_step rank s ≡ Makes next outs → RunsWithSome next
-some_after rank s next outs running may h =
+pub some_after : (rank : ℕ) (s next : MachineState) (outs : List Shown) → is_card (actor_of rank) ≡ false → RunsWithSome s → MayStep s rank
+    → reference_step rank s ≡ Makes next outs → RunsWithSome next
+some_after rank s next outs other running may h =
     let file = running.0 in
     let there = may_step_put file s rank may in
     let early = there.early in
-    (file, steps_keep_running last_limit rank (with_file file s) (with_file file next) outs running.1 there (omega (arith, early)) (makes_put file rank s next outs h))
+    (file, steps_keep_running last_limit rank (with_file file s) (with_file file next) outs running.1 there (omega (arith, early)) (makes_put file rank s next outs other h))
 
 -- ---- no step changes the file
 
+card_there : (a : actor.Actor) → is_card a ≡ true → a ≡ Card
+card_there Card h = refl
+card_there _ h = absurd (true≢false (sym h))
+
+card_keeps : (rank : ℕ) (due : Option Tick) (s : MachineState) → (left_by (awake due (step_by rank Card s))).file ≡ s.file
+card_keeps rank None s = refl
+card_keeps rank (Some tick) s = ap (λ (m : MachineState). m.file) (ended_put s.file tick (after_event Card s))
+
 pub steps_keep_file : StepsKeepFile
-steps_keep_file rank s = kept_put s.file (reference_step rank s) (reference_put s.file rank s)
+steps_keep_file rank s = elim (true_or_false (is_card (actor_of rank))) [
+  | inl card ↦ (let due = due_by (actor_of rank) s in
+      subst (λ (a : actor.Actor). (left_by (awake due (step_by rank a s))).file ≡ s.file) (sym (card_there (actor_of rank) card)) (card_keeps rank due s))
+  | inr other ↦ kept_put s.file (reference_step rank s) (reference_put s.file rank s other)
+]

@@ -28,7 +28,7 @@ use Rattle.ds_machine.specs.Reference.{Shown, after_event, after_geometry, after
 use Rattle.ds_machine.specs.States.{MachineState}
 use Rattle.ds_machine.specs.Statuses.{left_by}
 use Rattle.ds_machine.specs.Steps.{ended, gone_by, machine_concluded, map_of, with_map}
-use Rattle.ds_machine.proofs.ChannelEvents.{channel_made, channel_unchanged, read_unchanged, unit_lists, unit_video, unit_whole}
+use Rattle.ds_machine.proofs.ChannelEvents.{channel_made, channel_unchanged, read_left, unit_lists, unit_video, unit_whole}
 use Rattle.ds_machine.proofs.MachineSchedule.{Steps, awake_stops, channel_timers, operation, step_made_as, steps_here}
 use Rattle.ds_machine.proofs.ProcessorSteps.{Took, came_by, concluded_stops, concludes, costs_some, goes, reached_by, step_is}
 use Rattle.ds_machine.specs.Touched.{machine_graft, unchanged_by}
@@ -270,7 +270,7 @@ leaves_by KeyScript rank tick s left stop st h = absurd (not_both (after_line s.
 leaves_by (Dma proc channel) rank tick s left stop st h =
     let P : Option Tick → Type 0 = λ o. (let step : MachineStep MachineState Shown LeftOut = channel_step rank proc o s in step ≡ Stops stop left) in
     let read = channel_unchanged rank proc tick s left stop (subst P st.due h) in
-    let u = read_unchanged proc (next_unit s.io proc) s in
+    let u = read_left proc tick (next_unit s.io proc) s in
     keeps s.io left.io (ap (λ (m : MachineState). m.io.video.scan) (sym read) ∙ u.scan) (ap (λ (m : MachineState). m.io.video.whole) (sym read) ∙ u.whole)
     (ap (λ (m : MachineState). m.io.gx.geometry.last) (sym read) ∙ ap (λ (g : GxState). g.geometry.last) u.gx)
 leaves_by (Processor proc) rank tick s left stop st h =

@@ -35,7 +35,7 @@ use Rattle.ds_machine.proofs.ActingDues.{acting_low, acting_processor, acting_sp
 use Rattle.ds_machine.proofs.DueTicks.{own_tick, rank_there, sort_rank, steps_as}
 use Rattle.ds_machine.proofs.DecodedStays.{fetch_by_words}
 use Rattle.ds_machine.proofs.FastSteps.{ComesBefore, due_there, event_there, in_front, kept_is, processor_least, wait_ends, wait_is}
-use Rattle.ds_machine.proofs.Files.{some_after, some_sound}
+use Rattle.ds_machine.proofs.Files.{no_card, some_after, some_sound}
 use Rattle.ds_machine.proofs.OwnRemaining.{turn_steps_fall}
 use Rattle.ds_machine.proofs.PlacesByWords.{nine_by_words, seven_by_words}
 use Rattle.ds_machine.proofs.PrivatePlaces.{private_itself}
@@ -175,14 +175,14 @@ fetched_then s Seven at e lt k =
     subst (λ (x : ℕ). test x ≡ true) (sym e) (private_itself test (width_at r) r.pc (subst (λ (x : ℕ). x < 2 ^ 32) e lt) k)
 
 -- what is due before every event is below the fence
-no_fence : (proc each : Proc) (rank : ℕ) → rank ≡ rank_of each → Fences (actor_of rank) proc → ⊥
-no_fence proc Nine rank e f = subst (λ (r : ℕ). Fences (actor_of r) proc) e f
-no_fence proc Seven rank e f = subst (λ (r : ℕ). Fences (actor_of r) proc) e f
+no_fence : (s : MachineState) (proc each : Proc) (rank : ℕ) → rank ≡ rank_of each → Fences (actor_of rank) proc s → ⊥
+no_fence s proc Nine rank e f = subst (λ (r : ℕ). Fences (actor_of r) proc s) e f
+no_fence s proc Seven rank e f = subst (λ (r : ℕ). Fences (actor_of r) proc s) e f
 
 pub below_events : (next_event : NextEvent) (s : MachineState) (proc : Proc) (tick : Tick) → IsNextEvent next_event s → tick.0 < next_event.events_until.0 → IsBelowFence s proc tick
 below_events next_event s proc tick is lt rank at there f = elim (sort_rank rank (acting_low s rank at there)) [
   | inl event ↦ (let k = is.events rank at (event_there s rank at event there) in omega (arith, k, lt))
-  | inr rest ↦ elim rest [ inl e ↦ absurd (no_fence proc Nine rank e f) | inr e ↦ absurd (no_fence proc Seven rank e f) ]
+  | inr rest ↦ elim rest [ inl e ↦ absurd (no_fence s proc Nine rank e f) | inr e ↦ absurd (no_fence s proc Seven rank e f) ]
 ]
 
 pub line_is : (next_event : NextEvent) (s : MachineState) → IsNextEvent next_event s → (proc : Proc) → line_kept next_event proc ≡ line_of s proc
@@ -428,7 +428,7 @@ took_when next_event s next proc n until running d lt early goes apart made io o
       belongs = b;
       unobserving = apart;
       made = step;
-      running = some_after (rank_of proc) s next [] running (apart_may s proc n d (omega (arith, lt, early)) goes apart) step;
+      running = some_after (rank_of proc) s next [] (no_card proc) running (apart_may s proc n d (omega (arith, lt, early)) goes apart) step;
       fewer = turn_steps_fall until s s next proc [] (some_sound s running) b (needs_none s proc apart) step;
       io = io;
       other = other;

@@ -129,7 +129,7 @@ made_still (Processor proc) rank tick s made outs st h =
     (of_both (λ each. StaysStill s (gone_by proc came m) each) proc (inr (gone_own proc m came k.0))
     (inl (o.0 ∙ g.other.halted, ap (λ (p : ProcessorState). p.due) (o.1 ∙ (reaches proc s).other))))
 made_still a rank tick s made outs st h =
-    let g = event_goes a tick s.io st.sound.io tt st.numbered st.due in
+    let g = event_goes s.file a tick s.io st.sound.io tt st.numbered st.due in
     subst (λ (m : MachineState). (proc : Proc) → StaysStill s m proc) (same_makes (after_event a s) made [] outs h).0
     (happens_still tick s (after_event a s) g.0 (event_due a s))
 

@@ -1,7 +1,7 @@
 use Rattle.std.specs.Prelude.{◌||◌, not}
 use Rattle.std.proofs.Common.{ℕ, ◌≡◌, ◌≢◌, ◌+◌, ◌==◌, ◌&&◌, Bool, true, false, true≢false, if◌then◌else◌, List, [], ◌∷◌, length, Option, Some, None, refl, sym, ◌∙◌, ap, subst}
 use Rattle.std.proofs.lemmas.Bool.{or_from, or_parts}
-use Rattle.ds_base.proofs.Choices.{and_false}
+use Rattle.ds_base.proofs.Choices.{and_false, either}
 use Rattle.ds_base.specs.Accesses.{Access, Fetch, Read, Write}
 use Rattle.ds_base.specs.declared.keys.KeyLine.{KeyLine}
 use Rattle.ds_base.specs.declared.left_out.LeftOut.{LeftOut}
@@ -28,6 +28,7 @@ use Rattle.ds_dma.specs.Channels.{ChannelState, is_running, is_triggered}
 use Rattle.ds_dma.specs.Controls.{is_enabled, waits_for}
 use Rattle.ds_dma.specs.States.{DmaState, awaits_geometry, channel_at}
 use Rattle.ds_dma.specs.declared.channels.Unit.{Unit as DmaUnit}
+use Rattle.ds_card.specs.Cards.{card_after_event, card_due, card_starter, event_readies}
 use Rattle.ds_dma.specs.declared.controls.Cause.TheVariants as causes
 use Rattle.ds_dma.proofs.Wholes.{awaits_none}
 use Rattle.ds_map.specs.Maps.{MapState}
@@ -39,13 +40,13 @@ use Rattle.ds_places.specs.AddressTables.{place_of}
 use Rattle.ds_places.specs.declared.kinds.Place.{Place}
 use Rattle.ds_places.specs.declared.kinds.Place.TheVariants.{Banks, Cell, Nothing, Port, Rom}
 use Rattle.ds_ports.specs.Dues.{io_due}
-use Rattle.ds_ports.specs.Io.{IoState, both_raised, channels_triggered, io_event, keys_pressed, level_told, release_kept, settled, shown_to_others, video_done, with_gx}
+use Rattle.ds_ports.specs.Io.{IoState, both_raised, card_done_at, channels_triggered, io_event, keys_pressed, level_told, release_kept, settled, shown_to_others, starter_told, video_done, with_gx}
 use Rattle.ds_ports.specs.ProcessorIo.{processor_io_triggered}
 use Rattle.ds_ports.proofs.Arms.{ArmsNoMore, KeepsControls, armed, arms_by, arms_kept, arms_same, arms_then, keeps_same, triggered_keeps}
 use Rattle.ds_ports.proofs.GxApart.{channel_due_apart, event_apart, video_apart}
 use Rattle.ds_runs.specs.Runs.{MachineStep, Makes}
 use Rattle.ds_runs.specs.declared.actors.Actor as actor
-use Rattle.ds_runs.specs.declared.actors.Actor.TheVariants.{KeyScript, Video, Timer, Geometry, Dma, Processor}
+use Rattle.ds_runs.specs.declared.actors.Actor.TheVariants.{KeyScript, Video, Timer, Geometry, Card, Dma, Processor}
 use Rattle.ds_runs.proofs.RunLaws.{same_makes}
 use Rattle.ds_timers.specs.Irqs.{irq_levelled}
 use Rattle.gx_fifo.specs.GxStates.{GxState, gx_level, is_half_empty, is_stalled, shown_count}
@@ -143,7 +144,7 @@ module _ (g : GxState) where
   read_so (Itcm place) r at width h = refl
   read_so (Dtcm place) r at width h = refl
   read_so Past r at width h =
-      ap (λ (m : MapState). (let left : NineReach = record r { map = m } in left)) (gx_map.read g Nine r.map at width (place_apart (place_of Nine r.map.io.wramcnt at) h))
+      ap (λ (m : MapState). (let left : NineReach = record r { map = m } in left)) (gx_map.read g Nine r.map r.now at width (place_apart (place_of Nine r.map.io.wramcnt at) h))
 
   refusal_so : (tcm : Tcm) (r : NineReach) (at : ℕ) (width : Width) (value : ℕ) → is_observed_past tcm r.map.io.wramcnt at ≡ false
       → tcm_refusal tcm (nine_put g r) at width value ≡ tcm_refusal tcm r at width value
@@ -161,7 +162,7 @@ module _ (g : GxState) where
 read_goes : (tcm : Tcm) (r : NineReach) (at : ℕ) (width : Width) → NineGoes r (tcm_read tcm r at width)
 read_goes (Itcm place) r at width = goes_same r
 read_goes (Dtcm place) r at width = goes_same r
-read_goes Past r at width = record { cp15 = refl; arms = arms_by r.map.io.nine.dma _ (gx_map.map_read_dma Nine r.map at width) }
+read_goes Past r at width = record { cp15 = refl; arms = arms_by r.map.io.nine.dma _ (gx_map.map_read_dma Nine r.now r.map at width) }
 
 written_goes : (tcm : Tcm) (r : NineReach) (at : ℕ) (width : Width) (value : ℕ) → is_observed_past tcm r.map.io.wramcnt at ≡ false → NineGoes r (tcm_written tcm r at width value)
 written_goes (Itcm place) r at width value h = record { cp15 = refl; arms = arms_same r.map.io.nine.dma }
@@ -409,13 +410,25 @@ module _ (count : ℕ → ℕ) (on : (n : ℕ) → count (n + 1) ≡ count n + 1
 
   -- ---- each actor
 
-  event_lets : (rank : ℕ) (a : actor.Actor) (s : MachineState) → (io_event a s.io).nine.dma ≡ s.io.nine.dma → a ≢ Geometry
+  event_lets : (rank : ℕ) (a : actor.Actor) (s : MachineState) → ArmsNoMore s.io.nine.dma (io_event s.file a s.io).nine.dma → a ≢ Geometry
       → Lets s (Makes (after_event a (put s)) []) (Makes (after_event a s) [])
   event_lets rank a s e other = record {
-    same = ap (λ (u : IoState). (let step : Step = Makes (one_event (with_io (put s) u)) [] in step)) (event_apart g a s.io other)
-        ∙ ap (λ (m : MachineState). (let step : Step = Makes m [] in step)) (counts (with_io s (io_event a s.io)));
-    arms = arms_by s.io.nine.dma _ e;
+    same = ap (λ (u : IoState). (let step : Step = Makes (one_event (with_io (put s) u)) [] in step)) (event_apart g s.file a s.io other)
+        ∙ ap (λ (m : MachineState). (let step : Step = Makes m [] in step)) (counts (with_io s (io_event s.file a s.io)));
+    arms = e;
   }
+
+  -- the card triggers channels at most
+  given_arms : (file : List ℕ) (u : IoState) (now : Tick) (starter : Option Proc)
+      → ArmsNoMore u.nine.dma (starter_told starter u.card now (record u { card = card_after_event file u.card })).nine.dma
+  given_arms file u now None = arms_same u.nine.dma
+  given_arms file u now (Some Nine) =
+      either (ArmsNoMore u.nine.dma) (event_readies u.card) _ _ (arms_kept u.nine.dma _ (triggered_keeps u.nine.dma causes.Card now)) (arms_same u.nine.dma)
+  given_arms file u now (Some Seven) = arms_same u.nine.dma
+
+  card_arms : (file : List ℕ) (u : IoState) (due : Option Tick) → ArmsNoMore u.nine.dma (card_done_at due file u).nine.dma
+  card_arms file u None = arms_same u.nine.dma
+  card_arms file u (Some now) = given_arms file u now (card_starter u.card)
 
   lets : (rank : ℕ) (a : actor.Actor) (s : MachineState) → a ≢ Geometry → observes_by a s ≡ false → is_stalled g ≡ is_stalled s.io.gx
       → Lets s (step_by rank a (put s)) (step_by rank a s)
@@ -424,8 +437,8 @@ module _ (count : ℕ → ℕ) (on : (n : ℕ) → count (n + 1) ≡ count n + 1
     arms = table_arms rank KeyScript s refl;
   }
   lets rank Video s other h same = video_lets rank (video_stop s.oam s.io.video) s h
-  lets rank (Timer Nine number) s other h same = event_lets rank (Timer Nine number) s refl other
-  lets rank (Timer Seven number) s other h same = event_lets rank (Timer Seven number) s refl other
+  lets rank (Timer Nine number) s other h same = event_lets rank (Timer Nine number) s (arms_same s.io.nine.dma) other
+  lets rank (Timer Seven number) s other h same = event_lets rank (Timer Seven number) s (arms_same s.io.nine.dma) other
   lets rank Geometry s other h same = absurd (other refl)
   lets rank (Dma Nine channel) s other h same =
       let due = io_due (Dma Nine channel) s.io in
@@ -437,7 +450,8 @@ module _ (count : ℕ → ℕ) (on : (n : ℕ) → count (n + 1) ≡ count n + 1
   lets rank (Dma Seven channel) s other h same = seven_channel rank (io_due (Dma Seven channel) s.io) s
   lets rank (Processor Nine) s other h same = nine_lets rank s h
   lets rank (Processor Seven) s other h same = seven_lets rank s
-  lets rank a s other h same = event_lets rank a s refl other
+  lets rank Card s other h same = event_lets rank Card s (card_arms s.file s.io (card_due s.io.card)) other
+  lets rank a s other h same = event_lets rank a s (arms_same s.io.nine.dma) other
 
 pub gx_commutes : (rank : ℕ) (a : actor.Actor) (g : GxState) (s : MachineState) → a ≢ Geometry → observes_by a s ≡ false → is_stalled g ≡ is_stalled s.io.gx
     → step_by rank a (gx_put g s) ≡ step_with (gx_put g) (step_by rank a s)

@@ -89,10 +89,10 @@ owes_keys tick s (line ∷ rest) e due sound =
       sound = record { io = h.io; keys = rest_rises line rest are };
     }
 
-event_owes : (a : actor.Actor) (tick : Tick) (s : MachineState) → Happens tick s.io (io_event a s.io) → IsLater tick (due_by a (after_event a s)) → HasSoundParts s
+event_owes : (a : actor.Actor) (tick : Tick) (s : MachineState) → Happens tick s.io (io_event s.file a s.io) → IsLater tick (due_by a (after_event a s)) → HasSoundParts s
     → Owes a tick s (after_event a s)
 event_owes a tick s h later sound = record {
-  moves = event_moves tick s (io_event a s.io) s.keys h (inl refl);
+  moves = event_moves tick s (io_event s.file a s.io) s.keys h (inl refl);
   own = later;
   sound = record { io = h.io; keys = sound.keys };
 }
@@ -204,7 +204,7 @@ owes_by (Processor proc) rank tick s made outs st h =
     } in
     subst (Owes (Processor proc) tick s) k.1 owes
 owes_by a rank tick s made outs st h =
-    let g = event_goes a tick s.io st.sound.io tt st.numbered st.due in
+    let g = event_goes s.file a tick s.io st.sound.io tt st.numbered st.due in
     subst (Owes a tick s) (same_makes (after_event a s) made [] outs h).0 (event_owes a tick s g.0 g.1 st.sound)
 
 -- ---- and then the units settle, and processors wake
@@ -310,9 +310,9 @@ pub record Leaves (tick : Tick) (s left : MachineState) : Type 0 where
   pub moves : Moves tick s left
   pub sound : HasSoundParts left
 
-leaves_read : (tick : Tick) (proc : Proc) (s left : MachineState) → HasSoundParts s → with_map proc s (unit_read proc (next_unit s.io proc) (map_of proc s)) ≡ left → Leaves tick s left
+leaves_read : (tick : Tick) (proc : Proc) (s left : MachineState) → HasSoundParts s → with_map proc s (unit_read proc tick (next_unit s.io proc) (map_of proc s)) ≡ left → Leaves tick s left
 leaves_read tick proc s left sound read =
-    subst (Leaves tick s) read (record { moves = read_moves tick proc (next_unit s.io proc) s; sound = read_sound proc (next_unit s.io proc) s sound })
+    subst (Leaves tick s) read (record { moves = read_moves tick proc (next_unit s.io proc) s; sound = read_sound proc tick (next_unit s.io proc) s sound })
 
 leaves_by : (a : actor.Actor) (rank : ℕ) (tick : Tick) (s left : MachineState) (stop : LeftOut) → Steps a rank tick s → step_by rank a s ≡ Stops stop left → Leaves tick s left
 leaves_by KeyScript rank tick s left stop st h = absurd (not_both (after_line s.keys s) left [] stop h)

@@ -10,7 +10,7 @@ use Rattle.ds_ports.specs.Dues.{io_due}
 use Rattle.ds_ports.specs.Happenings.{Goes, IsIo, IsUnchanged, ReschedulesEach}
 use Rattle.ds_ports.specs.ProcessorIo.{blocks_processor, ProcessorIoState}
 use Rattle.ds_ports.specs.Io.{IoState, io_of, is_held}
-use Rattle.ds_ports.proofs.Later.{AreUnchanged, in_turn, unchanged_is, processor_io_is, io_is}
+use Rattle.ds_ports.proofs.Later.{ReadLeaves, in_turn, unchanged_is, processor_io_is, io_is}
 use Rattle.ds_runs.specs.Actors.{IsNumbered}
 use Rattle.ds_runs.specs.Owed.{AllReschedule}
 use Rattle.ds_runs.specs.declared.actors.Actor as actor
@@ -45,10 +45,6 @@ blocked_moves tick false false p q e h = inl (ap (λ (n : ℕ). (let o : Option 
 pub then_io_dues : (tick : Tick) (a b c : IoState) → ReschedulesEach tick a b → ReschedulesEach tick b c → ReschedulesEach tick a c
 then_io_dues tick a b c one two = λ who n. in_turn tick (io_due who a) (io_due who b) (io_due who c) (one who n) (two who n)
 
--- nothing but interrupt words changed
-pub unchanged_io_dues : (tick : Tick) (old new : IoState) → AreUnchanged old new → ReschedulesEach tick old new
-unchanged_io_dues tick old new l = λ who n. inl (l.dues who)
-
 -- ---- a processor's own
 
 -- it is blocked as before
@@ -58,8 +54,9 @@ unchanged_blocked old new l = rw (l.halted, l.dma) refl
 pub left_after : (a b c : ProcessorIoState) → IsUnchanged a b → IsUnchanged b c → IsUnchanged a c
 left_after a b c one two = record { timers = two.timers ∙ one.timers; keycnt = two.keycnt ∙ one.keycnt; halted = two.halted ∙ one.halted; dma = two.dma ∙ one.dma }
 
-pub unchanged_io : (old new : IoState) → IsIo old → AreUnchanged old new → IsIo new
-unchanged_io old new are l =
+-- what a read leaves
+pub read_io : (proc : Proc) (now : Tick) (old new : IoState) → IsIo old → ReadLeaves proc now old new → IsIo new
+read_io proc now old new are l =
     io_is new (λ each. unchanged_is (io_of old each) (io_of new each) (l.processor_io each) (processor_io_is old are each)) (subst AreWaiting (sym l.gx) are.gx)
 
 -- each is held as before; ARM9 by geometry too
@@ -67,9 +64,9 @@ held_by : (old new : IoState) → IsUnchanged old.nine new.nine → new.gx ≡ o
 held_by old new l gx =
     ap (λ (b : Bool). b || is_stalled new.gx) (unchanged_blocked old.nine new.nine l) ∙ ap (λ (g : GxState). blocks_processor old.nine || is_stalled g) gx
 
-pub unchanged_held : (old new : IoState) → AreUnchanged old new → (proc : Proc) → is_held new proc ≡ is_held old proc
-unchanged_held old new l Nine = held_by old new (l.processor_io Nine) l.gx
-unchanged_held old new l Seven = unchanged_blocked old.seven new.seven (l.processor_io Seven)
+pub read_held : (proc : Proc) (now : Tick) (old new : IoState) → ReadLeaves proc now old new → (each : Proc) → is_held new each ≡ is_held old each
+read_held proc now old new l Nine = held_by old new (l.processor_io Nine) l.gx
+read_held proc now old new l Seven = unchanged_blocked old.seven new.seven (l.processor_io Seven)
 
 -- the other one is held as before where a processor, or a channel of it, makes accesses
 pub other_held : (proc : Proc) (now : Tick) (old new : IoState) → Goes proc now old new → is_held new (other_proc proc) ≡ is_held old (other_proc proc)

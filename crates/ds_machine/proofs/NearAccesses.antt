@@ -8,6 +8,7 @@ use Rattle.ds_base.specs.declared.processors.Arch.{Arch}
 use Rattle.ds_base.specs.declared.processors.Arch.TheVariants.{V4, V5}
 use Rattle.ds_base.specs.declared.processors.Proc.{Proc}
 use Rattle.ds_base.specs.declared.processors.Proc.TheVariants.{Nine, Seven}
+use Rattle.ds_base.specs.declared.ticks.Tick.{Tick}
 use Rattle.arm_core.specs.Effects.{Meaning, carried_out, concluded}
 use Rattle.arm_core.specs.Registers.{RegisterState}
 use Rattle.arm_ops.specs.Meanings.{IsNear, is_ram}
@@ -29,17 +30,17 @@ is_near_at at = is_ram at || is_steady_port at
 
 -- ---- a load from there
 
-near_read : (proc : Proc) (m : MapState) (at : ℕ) (width : Width) → is_near_at at ≡ true → (map_read proc m at width).io ≡ m.io
-near_read proc m at width near = elim (or_cases (is_ram at) (is_steady_port at) near) [
-  | inl ram ↦ ram_read_io proc m at width ram
-  | inr steady ↦ (let q = steady_at at steady in read_io proc m at width q.low q.high)
+near_read : (proc : Proc) (now : Tick) (m : MapState) (at : ℕ) (width : Width) → is_near_at at ≡ true → (map_read proc now m at width).io ≡ m.io
+near_read proc now m at width near = elim (or_cases (is_ram at) (is_steady_port at) near) [
+  | inl ram ↦ ram_read_io proc now m at width ram
+  | inr steady ↦ (let q = steady_at at steady in read_io proc now m at width q.low q.high)
 ]
 
 -- also where a tightly coupled memory answers
 tcm_reads : (t : Tcm) (r : NineReach) (at : ℕ) (width : Width) → is_near_at at ≡ true → (tcm_read t r at width).map.io ≡ r.map.io
 tcm_reads (Itcm place) r at width near = refl
 tcm_reads (Dtcm place) r at width near = refl
-tcm_reads Past r at width near = near_read Nine r.map at width near
+tcm_reads Past r at width near = near_read Nine r.now r.map at width near
 
 -- ---- of each access, of which there is one at most
 
@@ -60,7 +61,7 @@ nine_io r (access ∷ other ∷ rest) near = absurd near
 seven_io : (r : SevenReach) (accesses : List Access) → IsNear is_steady_port accesses → (perform seven_memory r accesses).state.map.io ≡ r.map.io
 seven_io r [] near = refl
 seven_io r (Fetch at width ∷ []) near = refl
-seven_io r (Read at width ∷ []) near = near_read Seven r.map at width near
+seven_io r (Read at width ∷ []) near = near_read Seven r.now r.map at width near
 seven_io r (Write at width value ∷ []) ram =
     let left : SevenReach = seven_memory.write_next r at width value in
     rw (write_unchanged (seven_memory.refusal r at width value) left) (write_io Seven r.now r.map at width value ram)

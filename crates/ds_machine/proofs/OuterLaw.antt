@@ -8,6 +8,7 @@ use Rattle.ds_base.specs.declared.left_out.LeftOut.{LeftOut}
 use Rattle.ds_base.specs.declared.processors.Proc.{Proc}
 use Rattle.ds_base.specs.declared.processors.Proc.TheVariants.{Nine, Seven}
 use Rattle.ds_base.specs.declared.ticks.Tick.{Tick}
+use Rattle.ds_card.specs.Cards.{card_due_for}
 use Rattle.ds_map.specs.Shares.{IsSharedSo}
 use Rattle.ds_map.specs.Views.{NineReach, SevenReach}
 use Rattle.ds_ports.specs.Acting.{is_quiet}
@@ -28,7 +29,7 @@ use Rattle.ds_timers.specs.Irqs.{IrqState, irq_levelled, level}
 use Rattle.ds_timers.specs.Timing.{timer_at, timer_due}
 use Rattle.gx_fifo.specs.GxStates.{GxState, gx_finished, gx_level, is_half_empty, is_stalled}
 use Rattle.video2d.specs.Scans.{scan_due_tick}
-use Rattle.ds_machine.specs.Acting.{acting_due, acting_dues}
+use Rattle.ds_machine.specs.Acting.{acting_dues}
 use Rattle.ds_machine.specs.Apart.{NineOwn, nine_own_of, with_nine_own, with_seven_part}
 use Rattle.ds_machine.specs.Touched.{step_with}
 use Rattle.arm_core.specs.Steps.{enters}
@@ -39,7 +40,9 @@ use Rattle.ds_machine.specs.Sound.{HasSoundParts, IsSound}
 use Rattle.ds_machine.specs.States.{MachineState, ProcessorState, SevenState}
 use Rattle.ds_machine.specs.Steps.{ended, goes_on, is_blocked, is_halted, line_of, machine_settled, nine_reach, processor_of, seven_reach, tick_of, wakes, woken_one}
 use Rattle.ds_machine.proofs.ActingDues.{acting_low, acting_of_rank, acts_then, loud_same}
+use Rattle.ds_machine.specs.FenceTicks.{fence_due}
 use Rattle.ds_machine.proofs.DueTicks.{due_of_least, due_of_rank, low_rank}
+use Rattle.ds_machine.proofs.FenceFirsts.{fences_as, fences_there, there_fences}
 use Rattle.ds_machine.proofs.InnerLaw.{HasOwnOf, IsCalm, MovesAlone, after_nine, after_seven, calm, harmless_by_part, inner_nine, inner_seven, nine_fits, nine_moves, seven_moves}
 use Rattle.ds_machine.proofs.Apart.{leave_seven, none_of_seven}
 use Rattle.ds_machine.proofs.LagCommutes.{late_put}
@@ -101,14 +104,15 @@ pub record WakesApart (proc : Proc) (s next : MachineState) : Type 0 where
   pub scan : next.io.video.scan ≡ s.io.video.scan
   pub gx : next.io.gx ≡ s.io.gx
   pub released : next.io.released ≡ s.io.released
+  pub card : next.io.card ≡ s.io.card
 
 wakes_seven : (tick : Tick) (m : MachineState) (b : Bool) → WakesApart Nine m (if b then goes_on Seven tick m else m)
-wakes_seven tick m true = record { own = refl; keys = refl; scan = refl; gx = refl; released = refl }
-wakes_seven tick m false = record { own = refl; keys = refl; scan = refl; gx = refl; released = refl }
+wakes_seven tick m true = record { own = refl; keys = refl; scan = refl; gx = refl; released = refl; card = refl }
+wakes_seven tick m false = record { own = refl; keys = refl; scan = refl; gx = refl; released = refl; card = refl }
 
 wakes_nine : (tick : Tick) (m : MachineState) (b : Bool) → WakesApart Seven m (if b then goes_on Nine tick m else m)
-wakes_nine tick m true = record { own = refl; keys = refl; scan = refl; gx = refl; released = refl }
-wakes_nine tick m false = record { own = refl; keys = refl; scan = refl; gx = refl; released = refl }
+wakes_nine tick m true = record { own = refl; keys = refl; scan = refl; gx = refl; released = refl; card = refl }
+wakes_nine tick m false = record { own = refl; keys = refl; scan = refl; gx = refl; released = refl; card = refl }
 
 ends_nine : (tick : Tick) (made : MachineState) → is_halted made Nine ≡ false → WakesApart Nine (machine_settled tick made) (ended tick made)
 unfolding ended
@@ -194,6 +198,7 @@ module _ (tick : Tick) (s made : MachineState) (sound : IsSound s) (parts : HasS
         keys = e.keys ∙ l.keys;
         scan = e.scan ∙ ap (λ v. v.scan) k.video ∙ l.scan;
         geometry = λ nine. (e.gx ∙ k.gx ∙ (l.geometry refl).0, e.released ∙ released_so l);
+        card = ap (card_due_for Nine) (e.card ∙ k.card) ∙ l.card;
       }
 
   seven_after : LeavesApart Seven s made → is_halted made Seven ≡ false → LeavesApart Seven s (ended tick made)
@@ -206,6 +211,7 @@ module _ (tick : Tick) (s made : MachineState) (sound : IsSound s) (parts : HasS
         keys = e.keys ∙ l.keys;
         scan = e.scan ∙ ap (λ v. v.scan) k.video ∙ l.scan;
         geometry = λ nine. absurd (proc_differs (sym nine));
+        card = ap (card_due_for Seven) (e.card ∙ k.card) ∙ l.card;
       }
 
   pub after_it : (proc : Proc) → LeavesApart proc s made → is_halted s proc ≡ false → LeavesApart proc s (ended tick made)
@@ -240,32 +246,34 @@ harmless_so proc s next l h =
 quiet_so : (old new : IoState) → new.gx ≡ old.gx → new.nine.dma ≡ old.nine.dma → is_quiet new ≡ is_quiet old
 quiet_so old new gx dma = rw (gx, dma) refl
 
-fence_so : (proc : Proc) (s next : MachineState) → LeavesApart proc s next → (a : actor.Actor) → Fences a proc → acting_due a next ≡ acting_due a s
-fence_so proc s next l KeyScript f = ap keys_due l.keys
-fence_so proc s next l Video f = ap (λ scan. (let due : Option Tick = Some (scan_due_tick scan) in due)) l.scan
-fence_so Nine s next l (Timer Nine number) f = ap (λ timers. timer_due (timer_at timers number)) l.told.own.timers
-fence_so Seven s next l (Timer Seven number) f = ap (λ timers. timer_due (timer_at timers number)) l.told.own.timers
-fence_so Nine s next l (Timer Seven number) f = absurd (proc_differs (sym f))
-fence_so Seven s next l (Timer Nine number) f = absurd (proc_differs f)
-fence_so proc s next l Divider f = absurd f
-fence_so proc s next l SquareRoot f = absurd f
-fence_so Nine s next l Geometry f =
+fence_so : (proc : Proc) (s next : MachineState) → LeavesApart proc s next → (a : actor.Actor) → fence_due next proc a ≡ fence_due s proc a
+fence_so proc s next l KeyScript = ap keys_due l.keys
+fence_so proc s next l Video = ap (λ scan. (let due : Option Tick = Some (scan_due_tick scan) in due)) l.scan
+fence_so Nine s next l (Timer Nine number) = ap (λ timers. timer_due (timer_at timers number)) l.told.own.timers
+fence_so Seven s next l (Timer Seven number) = ap (λ timers. timer_due (timer_at timers number)) l.told.own.timers
+fence_so Nine s next l (Timer Seven number) = refl
+fence_so Seven s next l (Timer Nine number) = refl
+fence_so proc s next l Divider = refl
+fence_so proc s next l SquareRoot = refl
+fence_so Nine s next l Geometry =
     let gx = (l.geometry refl).0 in
     ap (λ (quiet : Bool). if quiet then None else next.io.gx.due) (quiet_so s.io next.io gx l.told.own.dma)
     ∙ ap (λ (g : GxState). if is_quiet s.io then None else g.due) gx
-fence_so Seven s next l Geometry f = absurd (proc_differs (sym f))
-fence_so proc s next l Card f = refl
-fence_so Nine s next l (Dma Nine channel) f =
+fence_so Seven s next l Geometry = refl
+fence_so proc s next l Card = l.card
+fence_so Nine s next l (Dma Nine channel) =
     rw ((l.geometry refl).0, (l.geometry refl).1, l.told.own.dma) refl
-fence_so Seven s next l (Dma Seven channel) f = ap (λ (dma : DmaState). channel_due dma channel) l.told.own.dma
-fence_so Nine s next l (Dma Seven channel) f = absurd (proc_differs (sym f))
-fence_so Seven s next l (Dma Nine channel) f = absurd (proc_differs f)
-fence_so proc s next l (Processor each) f = absurd f
+fence_so Seven s next l (Dma Seven channel) = ap (λ (dma : DmaState). channel_due dma channel) l.told.own.dma
+fence_so Nine s next l (Dma Seven channel) = refl
+fence_so Seven s next l (Dma Nine channel) = refl
+fence_so proc s next l (Processor each) = refl
 
 below_so : (proc : Proc) (s next : MachineState) (t : Tick) → LeavesApart proc s next → IsBelowFence s proc t → IsBelowFence next proc t
 below_so proc s next t l below rank at acts f =
     let lt = acting_low next rank at acts in
-    below rank at (acting_of_rank s rank lt ∙ sym (fence_so proc s next l (actor_of rank) f) ∙ sym (acting_of_rank next rank lt) ∙ acts) f
+    let a = actor_of rank in
+    let there = fences_there s proc a at (sym (fence_so proc s next l a) ∙ there_fences next proc a at (sym (acting_of_rank next rank lt) ∙ acts) f) in
+    below rank at (acting_of_rank s rank lt ∙ there.0) there.1
 
 -- ---- who steps before it
 
@@ -275,16 +283,16 @@ due_own Seven s t ahead = due_of_rank s 23 (omega arith) ∙ ap (λ (blocked : B
 
 -- the least of the others isn't in its fence, and isn't the processor; or it is quiet geometry, which isn't in ARM7's fence
 abbrev IsApartFrom : Proc → MachineState → ℕ → Type 0
-IsApartFrom proc s r = (Fences (actor_of r) proc → ⊥) ⊎ ((proc ≡ Nine) × (r ≡ 12) × (is_quiet s.io ≡ true))
+IsApartFrom proc s r = (Fences (actor_of r) proc s → ⊥) ⊎ ((proc ≡ Nine) × (r ≡ 12) × (is_quiet s.io ≡ true))
 
-acts_after : (proc : Proc) (s : MachineState) (t u : Tick) (r : ℕ) → RunsAhead proc s t → IsLeast (dues_of s) u r → due_at (acting_dues s) r ≡ Some u → Fences (actor_of r) proc → ⊥
+acts_after : (proc : Proc) (s : MachineState) (t u : Tick) (r : ℕ) → RunsAhead proc s t → IsLeast (dues_of s) u r → due_at (acting_dues s) r ≡ Some u → Fences (actor_of r) proc s → ⊥
 acts_after proc s t u r ahead least acts f =
     let later : t.0 < u.0 = ahead.below r u acts f in
     elim (least.least (rank_of proc) t (due_own proc s t ahead)) [ inl a ↦ omega (arith, later, a) | inr b ↦ (let e = b.0 in omega (arith, later, e)) ]
 
 quiet_apart : (proc : Proc) (s : MachineState) (r : ℕ) → r ≡ 12 → is_quiet s.io ≡ true → IsApartFrom proc s r
 quiet_apart Nine s r e quiet = inr (refl, e, quiet)
-quiet_apart Seven s r e quiet = inl (λ f. proc_differs (sym (subst (λ (x : ℕ). Fences (actor_of x) Seven) e f)))
+quiet_apart Seven s r e quiet = inl (λ f. proc_differs (sym (subst (λ (x : ℕ). Fences (actor_of x) Seven s) e f)))
 
 apart_from : (proc : Proc) (s : MachineState) (t u : Tick) (r : ℕ) → RunsAhead proc s t → IsLeast (dues_of s) u r → IsApartFrom proc s r
 apart_from proc s t u r ahead least = elim (true_or_false (is_quiet s.io)) [
@@ -309,7 +317,7 @@ record Outer (proc : Proc) (s next : MachineState) (t u : Tick) (r : ℕ) (outs 
   again : RunsAhead proc next t
 
 outer_step : (proc : Proc) (s next : MachineState) (t u : Tick) (r : ℕ) (outs : List Shown) → RunsAhead proc s t → IsLeast (dues_of s) u r → r ≢ rank_of proc
-    → (Fences (actor_of r) proc → ⊥) → reference_step r s ≡ Makes next outs → Outer proc s next t u r outs
+    → (Fences (actor_of r) proc s → ⊥) → reference_step r s ≡ Makes next outs → Outer proc s next t u r outs
 outer_step proc s next t u r outs ahead least ne apart h =
     let st = steps_here s u r ahead.sound.parts least in
     let k = step_made s next u r outs least h in
@@ -366,7 +374,8 @@ module _ (s : MachineState) (t : Tick) (ahead : RunsAhead Nine s t) (quiet : is_
     below = below;
   } where
     below : IsBelowFence late Nine t
-    below rank at acts f = ahead.below rank at (subst (λ (dues : List (Option Tick)). due_at dues rank ≡ Some at) (acting_same s ahead.sound quiet) acts) f
+    below rank at acts f = ahead.below rank at (subst (λ (dues : List (Option Tick)). due_at dues rank ≡ Some at) (acting_same s ahead.sound quiet) acts)
+        (fences_as (actor_of rank) Nine s late refl f)
 
 -- with another own part it comes to the same
 put_sound : (own : NineOwn) (s : MachineState) → IsSound s → IsSound (with_nine_own own s)
@@ -412,7 +421,7 @@ seven_passes rest s next t outs nine ahead quiet h = absurd (proc_differs (sym n
 -- Both laws for a processor whose own part is put into a machine so, by what is known of it: that others leave it and don't depend on it where it fits the machine, nor does
 -- what follows a step while the processor isn't halted; and what a harmless step makes of it, which fits.
 module _ (proc : Proc) {Own : Type 0} (put : Own → MachineState → MachineState) (after : MachineState → Own) (Fits : Own → MachineState → Type 0)
-    (leave : (rank : ℕ) (a : actor.Actor) (own : Own) (s : MachineState) → a ≢ Processor proc → (Fences a proc → ⊥) → Fits own s
+    (leave : (rank : ℕ) (a : actor.Actor) (own : Own) (s : MachineState) → a ≢ Processor proc → (Fences a proc s → ⊥) → Fits own s
     → step_by rank a (put own s) ≡ step_with (put own) (step_by rank a s))
     (ends : (tick : Tick) (own : Own) (s : MachineState) → is_halted s proc ≡ false → ended tick (put own s) ≡ put own (ended tick s))
     (inner : (s : MachineState) → IsCalm s → IsHarmless s proc → reference_step (rank_of proc) s ≡ Makes (put (after s) s) [])
@@ -422,7 +431,7 @@ module _ (proc : Proc) {Own : Type 0} (put : Own → MachineState → MachineSta
     (passes : PassesQuiet proc put after) where
   -- what another's step comes to on the machine with the own part that the harmless step makes
   there : (s : MachineState) (t u : Tick) (r : ℕ) (came : MachineStep MachineState Shown LeftOut) → RunsAhead proc s t → IsLeast (dues_of s) u r → r ≢ rank_of proc
-      → (Fences (actor_of r) proc → ⊥) → step_by r (actor_of r) s ≡ came → reference_step r (put (after s) s) ≡ awake (Some u) (step_with (put (after s)) came)
+      → (Fences (actor_of r) proc s → ⊥) → step_by r (actor_of r) s ≡ came → reference_step r (put (after s) s) ≡ awake (Some u) (step_with (put (after s)) came)
   there s t u r came ahead least ne apart took =
       let a = actor_of r in
       let other = not_own proc s u r least ne in
@@ -431,7 +440,7 @@ module _ (proc : Proc) {Own : Type 0} (put : Own → MachineState → MachineSta
       ap (λ (d : Option Tick). awake d (step_by r a (put (after s) s))) due ∙ ap (awake (Some u)) step
 
   apart_outer : (s next : MachineState) (t u : Tick) (r : ℕ) (outs : List Shown) → RunsAhead proc s t → IsLeast (dues_of s) u r → r ≢ rank_of proc
-      → (Fences (actor_of r) proc → ⊥) → reference_step r s ≡ Makes next outs
+      → (Fences (actor_of r) proc s → ⊥) → reference_step r s ≡ Makes next outs
       → (reference_step r (put (after s) s) ≡ Makes (put (after s) next) outs) × (after next ≡ after s) × RunsAhead proc next t
   apart_outer s next t u r outs ahead least ne apart h =
       let o = outer_step proc s next t u r outs ahead least ne apart h in (

@@ -1,10 +1,12 @@
-use Rattle.std.proofs.Common.{ℕ, ◌≡◌, ◌≢◌, List, Option, refl, sym, ◌∙◌, ap, subst}
+use Rattle.std.proofs.Common.{ℕ, ◌≡◌, ◌≢◌, List, [], Option, Some, None, refl, sym, ◌∙◌, ap, subst}
 use Rattle.ds_base.specs.declared.left_out.LeftOut.{LeftOut}
 use Rattle.ds_base.specs.declared.processors.Proc.{Proc}
 use Rattle.ds_base.specs.declared.processors.Proc.TheVariants.{Nine, Seven}
 use Rattle.ds_base.specs.declared.ticks.Tick.{Tick}
 use Rattle.arm_core.specs.declared.outcomes.Stepped as arm
 use Rattle.arm_core.specs.declared.outcomes.Stepped.TheVariants.{Cost, Halted, Left}
+use Rattle.ds_card.specs.Cards.{card_due, card_due_for, card_starter}
+use Rattle.ds_card.proofs.Schedules.{event_leaves_other}
 use Rattle.ds_ipc.specs.Ipcs.{other_proc}
 use Rattle.ds_map.specs.Moves.{next_unit}
 use Rattle.ds_ports.specs.Happenings.{IsTold}
@@ -20,14 +22,14 @@ use Rattle.ds_machine.specs.Apart.{nine_own_of, with_seven_part}
 use Rattle.ds_machine.specs.Touched.{machine_graft, step_with, unchanged_by}
 use Rattle.ds_machine.specs.Channels.{channel_step}
 use Rattle.ds_machine.specs.Hearing.{Fences}
-use Rattle.ds_machine.specs.Reference.{Shown, step_by}
+use Rattle.ds_machine.specs.Reference.{Shown, after_event, step_by}
 use Rattle.ds_machine.specs.States.{MachineState}
 use Rattle.ds_machine.specs.Statuses.{left_by}
 use Rattle.ds_machine.specs.Steps.{gone_by}
 use Rattle.ds_machine.proofs.Apart.{leave_seven, none_of_seven}
-use Rattle.ds_machine.proofs.ChannelEvents.{channel_made, machine_after_unit, unit_gx, unit_released, unit_video}
+use Rattle.ds_machine.proofs.ChannelEvents.{channel_made, machine_after_unit, unit_card, unit_gx, unit_released, unit_video}
 use Rattle.ds_machine.proofs.MachineSchedule.{Steps, channel_timers, operation}
-use Rattle.ds_machine.proofs.OwnShares.{own_stays}
+use Rattle.ds_machine.proofs.OwnShares.{given, given_to, own_stays}
 use Rattle.ds_machine.proofs.ProcessorSteps.{came_by, concludes, costs_some, goes, reached_by, reaches, step_is}
 use Rattle.ds_machine.proofs.Touched.{each_touches}
 use Rattle.ds_machine.proofs.Told.{IsOnlyTold, channel_tells, step_tells}
@@ -46,10 +48,11 @@ pub record LeavesApart (proc : Proc) (s made : MachineState) : Type 0 where
   pub keys : made.keys ≡ s.keys
   pub scan : made.io.video.scan ≡ s.io.video.scan
   pub geometry : proc ≡ Nine → (made.io.gx ≡ s.io.gx) × (made.io.released ≡ s.io.released)
+  pub card : card_due_for proc made.io.card ≡ card_due_for proc s.io.card
 
 -- ---- the own part
 
-own_left : (proc : Proc) (a : actor.Actor) (rank : ℕ) (s made : MachineState) (outs : List Shown) → a ≢ Processor proc → (Fences a proc → ⊥) → step_by rank a s ≡ Makes made outs
+own_left : (proc : Proc) (a : actor.Actor) (rank : ℕ) (s made : MachineState) (outs : List Shown) → a ≢ Processor proc → (Fences a proc s → ⊥) → step_by rank a s ≡ Makes made outs
     → HasPartOf proc made s
 own_left Nine a rank s made outs other apart h = own_stays rank a s made outs (other, apart) h
 own_left Seven a rank s made outs other apart h =
@@ -77,15 +80,16 @@ pub record LeavesIo (proc : Proc) (old new : IoState) : Type 0 where
   pub told : IsOnlyTold (io_of old proc) (io_of new proc)
   pub scan : new.video.scan ≡ old.video.scan
   pub geometry : proc ≡ Nine → (new.gx ≡ old.gx) × (new.released ≡ old.released)
+  pub card : card_due_for proc new.card ≡ card_due_for proc old.card
 
 -- the other processor's step
 gone_leaves : (proc : Proc) (came : arm.Stepped) (m : MachineState) → ((gone_by proc came m).keys ≡ m.keys) × ((gone_by proc came m).io.video ≡ m.io.video)
-    × ((gone_by proc came m).io.gx ≡ m.io.gx) × ((gone_by proc came m).io.released ≡ m.io.released)
-gone_leaves Nine (Cost clocks) m = (refl, refl, refl, refl)
-gone_leaves Seven (Cost clocks) m = (refl, refl, refl, refl)
-gone_leaves Nine (Halted clocks) m = (refl, refl, refl, refl)
-gone_leaves Seven (Halted clocks) m = (refl, refl, refl, refl)
-gone_leaves proc (Left stop) m = (refl, refl, refl, refl)
+    × ((gone_by proc came m).io.gx ≡ m.io.gx) × ((gone_by proc came m).io.released ≡ m.io.released) × ((gone_by proc came m).io.card ≡ m.io.card)
+gone_leaves Nine (Cost clocks) m = (refl, refl, refl, refl, refl)
+gone_leaves Seven (Cost clocks) m = (refl, refl, refl, refl, refl)
+gone_leaves Nine (Halted clocks) m = (refl, refl, refl, refl, refl)
+gone_leaves Seven (Halted clocks) m = (refl, refl, refl, refl, refl)
+gone_leaves proc (Left stop) m = (refl, refl, refl, refl, refl)
 
 -- ---- each actor
 
@@ -120,6 +124,8 @@ processor_rest proc rank tick s made outs st h twice seven =
           ap (λ (x : MachineState). x.io.gx) (sym k.1) ∙ l.2 ∙ g.geometry.of_seven (seven e),
           ap (λ (x : MachineState). x.io.released) (sym k.1) ∙ l.3 ∙ g.geometry.released,
         );
+        card = ap (λ (x : MachineState). card_due_for proc x.io.card) (sym k.1) ∙ ap (card_due_for proc) l.4
+            ∙ subst (λ (p : Proc). card_due_for p m.io.card ≡ card_due_for p s.io.card) twice g.card;
       };
     }
 
@@ -143,26 +149,57 @@ channel_rest proc channel rank tick s made outs st h twice seven =
           ap (λ (x : MachineState). x.io.gx) e ∙ unit_gx of channel tick unit s st.sound st.numbered st.due timers (seven nine),
           ap (λ (x : MachineState). x.io.released) e ∙ unit_released of channel tick unit s st.sound st.numbered st.due timers,
         );
+        card = ap (λ (x : MachineState). card_due_for proc x.io.card) e
+            ∙ subst (λ (p : Proc). card_due_for p (machine_after_unit of tick unit s).io.card ≡ card_due_for p s.io.card) twice
+            (unit_card of channel tick unit s st.sound st.numbered st.due timers);
       };
     } where
       unit_keys : (of : Proc) → (machine_after_unit of tick (next_unit s.io of) s).keys ≡ s.keys
       unit_keys Nine = refl
       unit_keys Seven = refl
 
+-- the card's event, where the other processor started its transfer
+given_rest : (proc : Proc) (s : MachineState) (now : Tick) (starter : Option Proc) → card_starter s.io.card ≡ starter → (card_starter s.io.card ≡ Some proc → ⊥)
+    → LeavesRest proc s (given_to starter now s)
+given_rest Nine s now None e apart = record {
+  keys = refl;
+  io = record { told = not_told s.io.nine; scan = refl; geometry = λ e. (refl, refl); card = event_leaves_other s.file s.io.card Nine apart };
+}
+given_rest Seven s now None e apart = record {
+  keys = refl;
+  io = record { told = not_told s.io.seven; scan = refl; geometry = λ e. (refl, refl); card = event_leaves_other s.file s.io.card Seven apart };
+}
+given_rest Nine s now (Some Nine) e apart = absurd (apart e)
+given_rest Nine s now (Some Seven) e apart = record {
+  keys = refl;
+  io = record { told = not_told s.io.nine; scan = refl; geometry = λ e. (refl, refl); card = event_leaves_other s.file s.io.card Nine apart };
+}
+given_rest Seven s now (Some Nine) e apart = record {
+  keys = refl;
+  io = record { told = not_told s.io.seven; scan = refl; geometry = λ e. (refl, refl); card = event_leaves_other s.file s.io.card Seven apart };
+}
+given_rest Seven s now (Some Seven) e apart = absurd (apart e)
+
+card_rest : (proc : Proc) (s : MachineState) (due : Option Tick) → (card_starter s.io.card ≡ Some proc → ⊥) → LeavesRest proc s (given due s)
+card_rest Nine s None apart = record { keys = refl; io = record { told = not_told s.io.nine; scan = refl; geometry = λ e. (refl, refl); card = refl } }
+card_rest Seven s None apart = record { keys = refl; io = record { told = not_told s.io.seven; scan = refl; geometry = λ e. (refl, refl); card = refl } }
+card_rest proc s (Some now) apart = given_rest proc s now (card_starter s.io.card) refl apart
+
 seven_nine : Seven ≡ Nine → Nine ≡ Seven
 seven_nine e = sym e
 
-pub rest_left : (proc : Proc) (a : actor.Actor) (rank : ℕ) (tick : Tick) (s made : MachineState) (outs : List Shown) → Steps a rank tick s → a ≢ Processor proc → (Fences a proc → ⊥)
+pub rest_left : (proc : Proc) (a : actor.Actor) (rank : ℕ) (tick : Tick) (s made : MachineState) (outs : List Shown) → Steps a rank tick s → a ≢ Processor proc → (Fences a proc s → ⊥)
     → step_by rank a s ≡ Makes made outs → LeavesRest proc s made
 rest_left proc KeyScript rank tick s made outs st other apart h = absurd (apart tt)
 rest_left proc Video rank tick s made outs st other apart h = absurd (apart tt)
 rest_left Nine Geometry rank tick s made outs st other apart h = absurd (apart refl)
 rest_left Seven Geometry rank tick s made outs st other apart h =
-    unit_rest Seven Geometry rank s made outs h (record { keys = refl; io = record { told = not_told s.io.seven; scan = refl; geometry = λ e. absurd (nine_is_not_seven e) } })
-rest_left proc Card rank tick s made outs st other apart h = absurd (apart tt)
+    unit_rest Seven Geometry rank s made outs h (record { keys = refl; io = record { told = not_told s.io.seven; scan = refl; geometry = λ e. absurd (nine_is_not_seven e); card = refl } })
+rest_left proc Card rank tick s made outs st other apart h =
+    subst (LeavesRest proc s) (same_makes (after_event Card s) made [] outs h).0 (card_rest proc s (card_due s.io.card) apart)
 rest_left Nine (Timer Nine number) rank tick s made outs st other apart h = absurd (apart refl)
-rest_left Nine (Timer Seven number) rank tick s made outs st other apart h = unit_rest Nine (Timer Seven number) rank s made outs h (record { keys = refl; io = record { told = not_told s.io.nine; scan = refl; geometry = λ e. (refl, refl) } })
-rest_left Seven (Timer Nine number) rank tick s made outs st other apart h = unit_rest Seven (Timer Nine number) rank s made outs h (record { keys = refl; io = record { told = not_told s.io.seven; scan = refl; geometry = λ e. (refl, refl) } })
+rest_left Nine (Timer Seven number) rank tick s made outs st other apart h = unit_rest Nine (Timer Seven number) rank s made outs h (record { keys = refl; io = record { told = not_told s.io.nine; scan = refl; geometry = λ e. (refl, refl); card = refl } })
+rest_left Seven (Timer Nine number) rank tick s made outs st other apart h = unit_rest Seven (Timer Nine number) rank s made outs h (record { keys = refl; io = record { told = not_told s.io.seven; scan = refl; geometry = λ e. (refl, refl); card = refl } })
 rest_left Seven (Timer Seven number) rank tick s made outs st other apart h = absurd (apart refl)
 rest_left Nine (Dma Nine channel) rank tick s made outs st other apart h = absurd (apart refl)
 rest_left Nine (Dma Seven channel) rank tick s made outs st other apart h = channel_rest Nine channel rank tick s made outs st h refl (λ e. refl)
@@ -172,10 +209,10 @@ rest_left Nine (Processor Nine) rank tick s made outs st other apart h = absurd 
 rest_left Nine (Processor Seven) rank tick s made outs st other apart h = processor_rest Nine rank tick s made outs st h refl (λ e. refl)
 rest_left Seven (Processor Nine) rank tick s made outs st other apart h = processor_rest Seven rank tick s made outs st h refl seven_nine
 rest_left Seven (Processor Seven) rank tick s made outs st other apart h = absurd (other refl)
-rest_left Nine a rank tick s made outs st other apart h = unit_rest Nine a rank s made outs h (record { keys = refl; io = record { told = not_told s.io.nine; scan = refl; geometry = λ e. (refl, refl) } })
-rest_left Seven a rank tick s made outs st other apart h = unit_rest Seven a rank s made outs h (record { keys = refl; io = record { told = not_told s.io.seven; scan = refl; geometry = λ e. (refl, refl) } })
+rest_left Nine a rank tick s made outs st other apart h = unit_rest Nine a rank s made outs h (record { keys = refl; io = record { told = not_told s.io.nine; scan = refl; geometry = λ e. (refl, refl); card = refl } })
+rest_left Seven a rank tick s made outs st other apart h = unit_rest Seven a rank s made outs h (record { keys = refl; io = record { told = not_told s.io.seven; scan = refl; geometry = λ e. (refl, refl); card = refl } })
 
-pub leaves_apart : (proc : Proc) (a : actor.Actor) (rank : ℕ) (tick : Tick) (s made : MachineState) (outs : List Shown) → Steps a rank tick s → a ≢ Processor proc → (Fences a proc → ⊥)
+pub leaves_apart : (proc : Proc) (a : actor.Actor) (rank : ℕ) (tick : Tick) (s made : MachineState) (outs : List Shown) → Steps a rank tick s → a ≢ Processor proc → (Fences a proc s → ⊥)
     → step_by rank a s ≡ Makes made outs → LeavesApart proc s made
 leaves_apart proc a rank tick s made outs st other apart h =
     let rest = rest_left proc a rank tick s made outs st other apart h in
@@ -185,4 +222,5 @@ leaves_apart proc a rank tick s made outs st other apart h =
       keys = rest.keys;
       scan = rest.io.scan;
       geometry = rest.io.geometry;
+      card = rest.io.card;
     }

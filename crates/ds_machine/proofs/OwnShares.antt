@@ -2,6 +2,7 @@ use Rattle.std.proofs.Common.{ℕ, ◌≡◌, Bool, true, false, if◌then◌els
 use Rattle.ds_base.specs.Accesses.{Access, Fetch, Read, Write}
 use Rattle.ds_base.specs.declared.left_out.LeftOut.{LeftOut}
 use Rattle.ds_base.specs.declared.left_out.Stop.{Stop}
+use Rattle.ds_base.specs.declared.processors.Proc.{Proc}
 use Rattle.ds_base.specs.declared.processors.Proc.TheVariants.{Nine, Seven}
 use Rattle.ds_base.specs.declared.ticks.Tick.{Tick}
 use Rattle.arm7_exec.specs.Arm7.{arm7}
@@ -9,6 +10,7 @@ use Rattle.arm_core.specs.Effects.{Outcome}
 use Rattle.arm_core.specs.Steps.{fetched}
 use Rattle.arm_core.specs.declared.outcomes.Stepped as arm
 use Rattle.arm_core.specs.declared.outcomes.Stepped.TheVariants.{Cost, Halted, Left}
+use Rattle.ds_card.specs.Cards.{card_after_event, card_due, card_starter}
 use Rattle.ds_dma.specs.declared.controls.Cause.TheVariants as causes
 use Rattle.ds_map.specs.Maps.{MapState}
 use Rattle.ds_map.specs.Moves.{next_unit, unit_moved, unit_refusal}
@@ -16,7 +18,7 @@ use Rattle.ds_map.specs.Shares.{IsSharedSo, SharedPart, is_beyond_seven, is_show
 use Rattle.ds_map.specs.Views.{SevenReach, seven_memory}
 use Rattle.ds_map.proofs.SevenShares as seven_map
 use Rattle.ds_ports.specs.Dues.{io_due}
-use Rattle.ds_ports.specs.Io.{IoState, level_told, release_kept, settled}
+use Rattle.ds_ports.specs.Io.{IoState, card_done_at, level_told, release_kept, settled, starter_told}
 use Rattle.ds_ports.specs.ProcessorIo.{processor_io_triggered}
 use Rattle.ds_runs.specs.Runs.{MachineStep, Makes}
 use Rattle.ds_runs.specs.declared.actors.Actor as actor
@@ -26,13 +28,13 @@ use Rattle.gx_fifo.specs.GxStates.{is_half_empty}
 use Rattle.vram_banks.proofs.Mixes.{mixed_length, mixed_same, mixed_twice}
 use Rattle.vram_banks.specs.Mixes.{mixed}
 use Rattle.ds_machine.specs.Apart.{IsOutside, NineOwn, nine_own_of, with_nine_own}
-use Rattle.ds_machine.specs.Channels.{channel_step, moved_by}
+use Rattle.ds_machine.specs.Channels.{channel_step, moved_by, one_event}
 use Rattle.ds_machine.specs.Reference.{Shown, step_by}
 use Rattle.ds_map.specs.Waits.{seven_wait, wait_at}
 use Rattle.ds_machine.specs.PrivateSides.{seven_side, side_taken, side_waits}
 use Rattle.ds_machine.specs.States.{MachineState}
 use Rattle.ds_machine.specs.Touched.{step_with}
-use Rattle.ds_machine.specs.Steps.{ended, goes_on, is_halted, line_of, machine_concluded, machine_settled, map_of, seven_reach, tick_of, wakes, with_map, with_seven, woken, woken_one}
+use Rattle.ds_machine.specs.Steps.{ended, goes_on, is_halted, line_of, machine_concluded, machine_settled, map_of, seven_reach, tick_of, wakes, with_io, with_map, with_seven, woken, woken_one}
 use Rattle.ds_machine.proofs.Commutes.{Commutes, step_waits_commute, taken_commutes, word_commutes}
 use Rattle.ds_machine.proofs.Ticks.{ticked, ticked_so}
 use Rattle.ds_machine.proofs.OuterSteps.{not_woken, settled_halted}
@@ -88,10 +90,10 @@ seven_commutes own = record {
   read = λ r at width rest i. seven_map.value own r.map i r.now at width;
   refuses = λ r at width value rest i. seven_map.refusal own r.map i at width value;
   fetches = λ r at width rest i. refl;
-  reads = λ r at width rest i. ap (λ (m : MapState). (let left : SevenReach = record r { map = m } in left)) (seven_map.read own r.map i at width);
+  reads = λ r at width rest i. ap (λ (m : MapState). (let left : SevenReach = record r { map = m } in left)) (seven_map.read own r.map i r.now at width);
   writes = λ r at width value rest i. ap (λ (m : MapState). (let left : SevenReach = record r { map = m } in left)) (seven_map.written own r.map i r.now at width value);
   fetch_stays = λ r at width rest i. i;
-  read_stays = λ r at width rest i. seven_map.read_stays own r.map i at width;
+  read_stays = λ r at width rest i. seven_map.read_stays own r.map i r.now at width;
   write_stays = λ r at width value rest i. seven_map.written_stays own r.map i r.now at width value;
 }
 
@@ -158,15 +160,35 @@ seven_channel rank (Some now) own s shared =
     (seven_map.unit_moves own.share m shared now unit)
     ∙ seven_moved rank now (unit_refusal Seven now unit m) own (with_map Seven s (unit_moved Seven now unit m))
 
+-- ---- the card's event
+
+-- by when it is due, and by who started its transfer
+abbrev pub given : Option Tick → MachineState → MachineState
+given due m = one_event (with_io m (card_done_at due m.file m.io))
+
+abbrev pub given_to : Option Proc → Tick → MachineState → MachineState
+given_to starter now m =
+    one_event (with_io m (starter_told starter m.io.card now (record m.io { card = card_after_event m.file m.io.card })))
+
+given_own : (own : NineOwn) (now : Tick) (s : MachineState) (starter : Option Proc) → given_to starter now (with_nine_own own s) ≡ with_nine_own own (given_to starter now s)
+given_own own now s None = refl
+given_own own now s (Some Nine) = refl
+given_own own now s (Some Seven) = refl
+
+card_own : (own : NineOwn) (s : MachineState) (due : Option Tick) → given due (with_nine_own own s) ≡ with_nine_own own (given due s)
+card_own own s None = refl
+card_own own s (Some now) = given_own own now s (card_starter s.io.card)
+
 -- ---- each actor
 
-pub leave_nine_own : (rank : ℕ) (a : actor.Actor) (own : NineOwn) (s : MachineState) → IsOutside a → IsSharedSo own.share s.shared s.io
+pub leave_nine_own : (rank : ℕ) (a : actor.Actor) (own : NineOwn) (s : MachineState) → IsOutside a s → IsSharedSo own.share s.shared s.io
     → step_by rank a (with_nine_own own s) ≡ step_with (with_nine_own own) (step_by rank a s)
 leave_nine_own rank KeyScript own s outside shared = absurd (outside.1 tt)
 leave_nine_own rank Video own s outside shared = absurd (outside.1 tt)
 leave_nine_own rank (Timer Nine number) own s outside shared = absurd (outside.1 refl)
 leave_nine_own rank Geometry own s outside shared = absurd (outside.1 refl)
-leave_nine_own rank Card own s outside shared = absurd (outside.1 tt)
+leave_nine_own rank Card own s outside shared =
+    ap (λ (m : MachineState). (let step : MachineStep MachineState Shown LeftOut = Makes m [] in step)) (card_own own s (card_due s.io.card))
 leave_nine_own rank (Dma Nine channel) own s outside shared = absurd (outside.1 refl)
 leave_nine_own rank (Dma Seven channel) own s outside shared = seven_channel rank (io_due (Dma Seven channel) s.io) own s shared
 leave_nine_own rank (Processor Nine) own s outside shared = absurd (outside.0 refl)
@@ -175,7 +197,7 @@ leave_nine_own rank (Timer Seven number) own s outside shared = refl
 leave_nine_own rank a own s outside shared = refl
 
 -- so such an actor leaves all that ARM9 alone reaches
-pub own_stays : (rank : ℕ) (a : actor.Actor) (s made : MachineState) (outs : List Shown) → IsOutside a → step_by rank a s ≡ Makes made outs
+pub own_stays : (rank : ℕ) (a : actor.Actor) (s made : MachineState) (outs : List Shown) → IsOutside a s → step_by rank a s ≡ Makes made outs
     → nine_own_of made ≡ nine_own_of s
 own_stays rank a s made outs outside h =
     let put = with_nine_own (nine_own_of s) in

@@ -4,29 +4,33 @@ use Rattle.ds_base.specs.declared.memories.Width.{Width}
 use Rattle.ds_base.specs.declared.memories.Width.TheVariants.{Byte, Half, Word}
 use Rattle.ds_base.specs.declared.processors.Proc.{Proc}
 use Rattle.ds_base.specs.declared.processors.Proc.TheVariants.{Nine, Seven}
+use Rattle.ds_base.specs.declared.ticks.Tick.{Tick}
 use Rattle.ds_places.proofs.Rows.{port_place}
 use Rattle.ds_map.specs.Accesses.{map_read}
 use Rattle.ds_map.specs.Maps.{MapState}
 use Rattle.ds_ports.specs.Io.{IoState}
-use Rattle.ds_ports.specs.Ports.{port_read, read_unchanged, whole_if, whole_in}
+use Rattle.ds_ports.specs.Ports.{port_read, slot_read, whole_if, whole_in}
 use Rattle.ds_ports.specs.RegisterMap.{PortRow, row_bytes, slot_of}
 use Rattle.ds_ports.specs.Registers.{meaning_of}
 use Rattle.ds_ports.specs.declared.registers.Register.{Register}
-use Rattle.ds_ports.specs.declared.registers.Register.TheVariants.{Ipcfiforecv}
+use Rattle.ds_ports.specs.declared.registers.Register.TheVariants.{Ipcfiforecv, CardData}
 use Rattle.ds_ports.specs.declared.registers.Slot.{Slot}
 use Rattle.ds_ports.proofs.Covered.{OfKind, slot_is}
 
--- A read of a port from 4000000h to 40FFFFFh leaves all units as they are: IPCFIFORECV, of which a read takes a word, doesn't stand there.
+-- A read of a port from 4000000h to 40FFFFFh leaves all units as they are: IPCFIFORECV and the card's data, of which a read takes a
+-- word, don't stand there.
 
 -- ---- a read of any other register leaves them
 
 abbrev is_other : Register → Bool
 is_other Ipcfiforecv = false
+is_other CardData = false
 is_other _ = true
 
-register_leaves : (register : Register) → is_other register ≡ true → (proc : Proc) (u : IoState) → (meaning_of register).after_read proc u ≡ u
-register_leaves Ipcfiforecv h proc u = absurd (true≢false (sym h))
-register_leaves _ h proc u = refl
+register_leaves : (register : Register) → is_other register ≡ true → (proc : Proc) (now : Tick) (u : IoState) → (meaning_of register).after_read proc now u ≡ u
+register_leaves Ipcfiforecv h proc now u = absurd (true≢false (sym h))
+register_leaves CardData h proc now u = absurd (true≢false (sym h))
+register_leaves _ h proc now u = refl
 
 -- ---- the rows that begin below a limit have no other
 
@@ -42,18 +46,18 @@ other_at Seven at lt = slot_is is_high is_other Seven at refl (λ r h. outside r
 
 -- ---- so a read there
 
-slot_leaves : (proc : Proc) (u : IoState) (slot : Option Slot) → OfKind is_other slot → read_unchanged proc u (whole_in Word slot) ≡ u
-slot_leaves proc u None other = refl
-slot_leaves proc u (Some slot) other = whole (nat_le (slot.byte + width_bytes Word) slot.bytes) where
-  whole : (b : Bool) → read_unchanged proc u (whole_if b slot) ≡ u
-  whole true = register_leaves slot.register other proc u
+slot_leaves : (proc : Proc) (now : Tick) (u : IoState) (slot : Option Slot) → OfKind is_other slot → slot_read proc now u (whole_in Word slot) ≡ u
+slot_leaves proc now u None other = refl
+slot_leaves proc now u (Some slot) other = whole (nat_le (slot.byte + width_bytes Word) slot.bytes) where
+  whole : (b : Bool) → slot_read proc now u (whole_if b slot) ≡ u
+  whole true = register_leaves slot.register other proc now u
   whole false = refl
 
-pub read_leaves : (proc : Proc) (u : IoState) (at : ℕ) (width : Width) → at < 0x100000 → port_read proc u at width ≡ u
+pub read_leaves : (proc : Proc) (now : Tick) (u : IoState) (at : ℕ) (width : Width) → at < 0x100000 → port_read proc now u at width ≡ u
 unfolding port_read
-read_leaves proc u at Byte lt = refl
-read_leaves proc u at Half lt = refl
-read_leaves proc u at Word lt = slot_leaves proc u (slot_of proc at) (other_at proc at lt)
+read_leaves proc now u at Byte lt = refl
+read_leaves proc now u at Half lt = refl
+read_leaves proc now u at Word lt = slot_leaves proc now u (slot_of proc at) (other_at proc at lt)
 
 -- ---- by addresses
 
@@ -62,8 +66,9 @@ aligned_below Byte at lt = omega (arith, lt)
 aligned_below Half at lt = omega (arith, lt)
 aligned_below Word at lt = omega (arith, lt)
 
-pub read_io : (proc : Proc) (m : MapState) (at : ℕ) (width : Width) → 0x04000000 ≤ at → at < 0x04100000 → (map_read proc m at width).io ≡ m.io
+pub read_io : (proc : Proc) (now : Tick) (m : MapState) (at : ℕ) (width : Width) → 0x04000000 ≤ at → at < 0x04100000
+    → (map_read proc now m at width).io ≡ m.io
 unfolding map_read
-read_io proc m at width low high =
+read_io proc now m at width low high =
     rw (port_place proc m.io.wramcnt at low (omega (arith, high))) (
-    read_leaves proc m.io (aligned_down width (at - 0x04000000)) width (aligned_below width (at - 0x04000000) (omega (arith, low, high))))
+    read_leaves proc now m.io (aligned_down width (at - 0x04000000)) width (aligned_below width (at - 0x04000000) (omega (arith, low, high))))

@@ -137,11 +137,11 @@ fetch_alike Nothing wram m n width own = refl
 fetch_alike (Cell Own7 at) wram m n width own = refl
 fetch_alike place wram m n width own = absurd (true≢false (sym own))
 
-read_leaves : (place : Place) (m : MapState) (width : Width) → is_own place ≡ true → after_read_at Seven place m width ≡ m
-read_leaves (Rom at) m width own = refl
-read_leaves Nothing m width own = refl
-read_leaves (Cell Own7 at) m width own = refl
-read_leaves place m width own = absurd (true≢false (sym own))
+read_leaves : (now : Tick) (place : Place) (m : MapState) (width : Width) → is_own place ≡ true → after_read_at Seven now place m width ≡ m
+read_leaves now (Rom at) m width own = refl
+read_leaves now Nothing m width own = refl
+read_leaves now (Cell Own7 at) m width own = refl
+read_leaves now place m width own = absurd (true≢false (sym own))
 
 none_refused : (place : Place) (m : MapState) (width : Width) (value : ℕ) → is_own place ≡ true → refusal_at Seven place m width value ≡ None
 none_refused (Rom at) m width value own = refl
@@ -172,9 +172,9 @@ module _ (at : ℕ) (place : Place) (fixed : IsFixed at place) (width : Width) w
       ∙ fetch_alike place wram m n width fixed.own
       ∙ ap (λ (p : Place). fetched_at Seven p (with_wram wram n) width) (sym (fixed.stands n.io.wramcnt))
 
-  pub map_read_leaves : (m : MapState) → map_read Seven m at width ≡ m
+  pub map_read_leaves : (now : Tick) (m : MapState) → map_read Seven now m at width ≡ m
   unfolding map_read
-  map_read_leaves m = ap (λ (p : Place). after_read_at Seven p m width) (fixed.stands m.io.wramcnt) ∙ read_leaves place m width fixed.own
+  map_read_leaves now m = ap (λ (p : Place). after_read_at Seven now p m width) (fixed.stands m.io.wramcnt) ∙ read_leaves now place m width fixed.own
 
   pub map_none_refused : (m : MapState) (value : ℕ) → map_refusal Seven m at width value ≡ None
   unfolding map_refusal

@@ -102,7 +102,7 @@ read_by_tcm : (t : Tcm) (own : NineReachOwn) (at : ℕ) (width : Width) (r : Nin
 read_by_tcm (Itcm place) own at width r is = refl
 read_by_tcm (Dtcm place) own at width r is = refl
 read_by_tcm Past own at width r is =
-    ap (λ (m : MapState). (let left : NineReach = record (put_nine own r) { map = m } in left)) (nine_read_leaves own.bytes at is width r.map)
+    ap (λ (m : MapState). (let left : NineReach = record (put_nine own r) { map = m } in left)) (nine_read_leaves own.bytes at is width r.now r.map)
 
 refused_by : (t : Tcm) (own : NineReachOwn) (at : ℕ) (width : Width) (value : ℕ) (r : NineReach) → IsOwnThere t own.bytes.share.wramcnt at
     → tcm_refusal t (put_nine own r) at width value ≡ None
@@ -257,7 +257,7 @@ seven_apart = record {
   read = λ own at width r t h. map_value_alike at (low_place at) (low_fixed at (at_seven width at h)) width r.now t.now own r.map t.map;
   fetches = λ own at width r h. refl;
   reads = λ own at width r h.
-      ap (λ (m : MapState). (let left : SevenReach = record r { map = m } in left)) (map_read_leaves at (low_place at) (low_fixed at (at_seven width at h)) width (with_wram own r.map));
+      ap (λ (m : MapState). (let left : SevenReach = record r { map = m } in left)) (map_read_leaves at (low_place at) (low_fixed at (at_seven width at h)) width r.now (with_wram own r.map));
   refuses = λ own at width value r h. map_none_refused at (low_place at) (low_fixed at (at_seven width at h)) width (with_wram own r.map) value;
   writes = λ own at width value r h.
       ap (λ (m : MapState). (let left : SevenReach = record r { map = m } in left)) (map_write_leaves at (low_place at) (low_fixed at (at_seven width at h)) width r.now own r.map value);

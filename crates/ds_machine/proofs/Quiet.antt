@@ -135,7 +135,7 @@ fence_timers : (s : MachineState) (proc : Proc) (tick : Tick) → IsBelowFence s
 fence_timers s proc tick below which lt = later_if tick (io_due (Timer proc which) s.io) (λ at h.
     (let has = timer_rank proc which lt in
     let there : due_at (acting_dues s) has.0 ≡ Some at = low_acts s has.0 has.1.low ∙ ap (λ (a : actor.Actor). due_by a s) has.1.there ∙ h in
-    let P : actor.Actor → Type 0 = λ a. Fences a proc in
+    let P : actor.Actor → Type 0 = λ a. Fences a proc s in
     below has.0 at there (subst P (sym has.1.there) refl)))
 
 pub quiet_ahead : (s : MachineState) (proc : Proc) → IsAhead s proc → HasOnlyLaterEvents (tick_of (processor_of s proc)) (io_of s.io proc)

@@ -79,18 +79,18 @@ put_io proc now (Port at) m width value h = absurd (true≢false (sym h))
 put_io proc now (Rom at) m width value h = refl
 put_io proc now Nothing m width value h = refl
 
-unchanged_io : (proc : Proc) (place : Place) (m : MapState) (width : Width) → is_cells place ≡ true → (after_read_at proc place m width).io ≡ m.io
-unchanged_io proc (Cell memory at) m width h = refl
-unchanged_io proc (Banks space at) m width h = refl
-unchanged_io proc (Port at) m width h = absurd (true≢false (sym h))
-unchanged_io proc (Rom at) m width h = refl
-unchanged_io proc Nothing m width h = refl
+unchanged_io : (proc : Proc) (now : Tick) (place : Place) (m : MapState) (width : Width) → is_cells place ≡ true → (after_read_at proc now place m width).io ≡ m.io
+unchanged_io proc now (Cell memory at) m width h = refl
+unchanged_io proc now (Banks space at) m width h = refl
+unchanged_io proc now (Port at) m width h = absurd (true≢false (sym h))
+unchanged_io proc now (Rom at) m width h = refl
+unchanged_io proc now Nothing m width h = refl
 
-pub ram_read_io : (proc : Proc) (m : MapState) (at : ℕ) (width : Width) → is_ram at ≡ true → (map_read proc m at width).io ≡ m.io
+pub ram_read_io : (proc : Proc) (now : Tick) (m : MapState) (at : ℕ) (width : Width) → is_ram at ≡ true → (map_read proc now m at width).io ≡ m.io
 unfolding map_read
-ram_read_io proc m at width ram =
+ram_read_io proc now m at width ram =
     let b = ram_bounds at ram in
-    unchanged_io proc (place_of proc m.io.wramcnt at) m width (ram_cells proc m.io.wramcnt at b.0 b.1)
+    unchanged_io proc now (place_of proc m.io.wramcnt at) m width (ram_cells proc m.io.wramcnt at b.0 b.1)
 
 pub ram_write_io : (proc : Proc) (now : Tick) (m : MapState) (at : ℕ) (width : Width) (value : ℕ) → 0x02000000 ≤ at → at < 0x04000000 → (map_written proc now m at width value).io ≡ m.io
 unfolding map_written

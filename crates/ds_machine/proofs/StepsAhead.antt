@@ -7,7 +7,6 @@ use Rattle.ds_ipc.specs.Ipcs.{other_proc}
 use Rattle.ds_ports.specs.Happenings.{IsIo}
 use Rattle.ds_ports.specs.Io.{IoState, io_of, is_settled}
 use Rattle.ds_runs.specs.Runs.{Makes}
-use Rattle.ds_runs.specs.declared.actors.Actor as actor
 use Rattle.ds_timers.specs.Irqs.{shares_bit}
 use Rattle.ds_map.specs.Shares.{IsSharedSo}
 use Rattle.ds_machine.specs.Apart.{NineOwn, nine_own_of, with_nine_own, with_seven_part}
@@ -16,8 +15,6 @@ use Rattle.ds_machine.specs.Reference.{reference_step}
 use Rattle.ds_machine.specs.Sound.{HasSoundParts, IsSound}
 use Rattle.ds_machine.specs.States.{MachineState, SevenState}
 use Rattle.ds_machine.specs.Steps.{nine_reach, processor_of, seven_reach, tick_of}
-use Rattle.ds_machine.specs.declared.answers.Done as answer
-use Rattle.ds_machine.specs.declared.answers.Done.TheVariants as answers
 use Rattle.ds_machine.proofs.InnerLaw.{after_nine, after_seven, calm, inner_nine, inner_seven, nine_later, nine_fits, seven_later}
 
 -- A processor's step before its turn: what it leaves.

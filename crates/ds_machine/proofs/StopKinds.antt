@@ -3,6 +3,7 @@ use Rattle.std.specs.List.{range_with_len}
 use Rattle.ds_base.proofs.Choices.{either}
 use Rattle.ds_base.specs.Accesses.{Access, Fetch, MemoryMachine, Performed, Read, Write, perform, refused_or}
 use Rattle.ds_base.specs.Bits.{bit}
+use Rattle.ds_card.specs.Cards.{CardState, start_refusal}
 use Rattle.ds_base.specs.Numbers.{aligned_down}
 use Rattle.ds_base.specs.declared.left_out.LeftKind.{LeftKind}
 use Rattle.ds_base.specs.declared.left_out.LeftKind.TheVariants as kinds
@@ -49,9 +50,9 @@ use Rattle.ds_ports.specs.Dues.{io_due}
 use Rattle.ds_ports.specs.Io.{IoState, io_of}
 use Rattle.ds_ports.specs.Ports.{byte_refusal, first_stop, half_refusal, ignores, port_refusal, refusal_or, slot_joined, slot_refusal, whole_in, word_refusal}
 use Rattle.ds_ports.specs.RegisterMap.{slot_of}
-use Rattle.ds_ports.specs.Registers.{card_refusal, halt_refusal, is_mode_left_out, meaning_of}
+use Rattle.ds_ports.specs.Registers.{halt_refusal, is_mode_left_out, meaning_of}
 use Rattle.ds_ports.specs.declared.registers.Register.{Register}
-use Rattle.ds_ports.specs.declared.registers.Register.TheVariants.{Dmacnt, Romctrl, Haltcnt}
+use Rattle.ds_ports.specs.declared.registers.Register.TheVariants.{Auxspicnt, CardWord, Dmacnt, Haltcnt}
 use Rattle.ds_ports.specs.declared.registers.Slot.{Slot}
 use Rattle.ds_runs.specs.Actors.{actor_of}
 use Rattle.ds_runs.specs.Runs.{MachineStep, Makes, Stops}
@@ -179,8 +180,8 @@ line_named oam v =
 control_named : (proc : Proc) (old control : ℕ) → IsNamed (refusal proc old control)
 control_named proc old control = stop_if (is_enabled control && not (is_enabled old) && is_left_out proc control) (record { kind = kinds.DmaStart; value = control }) (λ e. cc)
 
-card_named : (word : ℕ) → IsNamed (card_refusal word)
-card_named word = stop_if (bit 31 word) (record { kind = kinds.CardTransfer; value = word }) (λ e. cc)
+card_named : (card : CardState) (at : ℕ) (width : Width) (word : ℕ) → IsNamed (start_refusal card at width word)
+card_named card at width word = stop_if _ (record { kind = kinds.CardTransfer; value = _ }) (λ e. cc)
 
 halt_named : (value : ℕ) → IsNamed (halt_refusal value)
 halt_named value = stop_if (is_mode_left_out value) (record { kind = kinds.HaltMode; value = value }) (λ e. cc)
@@ -189,7 +190,8 @@ module _ (proc : Proc) (u : IoState) where
   register_named : (n word : ℕ) (register : Register) → IsNamed ((meaning_of register).refusal proc u n word)
   register_named n word Dmacnt =
       control_named (io_of u proc).dma.proc (channel_at (io_of u proc).dma.channels n).cnt (kept_channel_control (io_of u proc).dma.proc n word)
-  register_named n word Romctrl = card_named word
+  register_named n word Auxspicnt = card_named u.card n Half word
+  register_named n word CardWord = card_named u.card n Word word
   register_named n word Haltcnt = halt_named (word % 2 ^ 8)
   register_named n word _ = tt
 

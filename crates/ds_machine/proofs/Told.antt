@@ -28,7 +28,7 @@ use Rattle.ds_machine.specs.Reference.{Shown, step_by}
 use Rattle.ds_machine.specs.States.{MachineState}
 use Rattle.ds_machine.specs.Statuses.{left_by}
 use Rattle.ds_machine.specs.Steps.{machine_concluded, map_of, with_map}
-use Rattle.ds_machine.proofs.ChannelEvents.{read_unchanged, unit_other, unit_told}
+use Rattle.ds_machine.proofs.ChannelEvents.{read_left, unit_other, unit_told}
 use Rattle.ds_machine.proofs.MachineSchedule.{Steps, channel_timers, operation}
 use Rattle.ds_machine.proofs.ProcessorSteps.{came_by, goes, reached_by}
 
@@ -112,4 +112,4 @@ channel_tells rank proc channel tick s st =
             own = unit_other proc channel tick unit s st.sound st.numbered st.due timers;
             told = unit_told proc channel tick unit s st.sound st.numbered st.due timers;
           }
-      by_refusal unit (Some stop) = let left = read_unchanged proc unit s in record { own = left.processor_io (other_proc proc); told = left.told (other_proc proc) }
+      by_refusal unit (Some stop) = let left = read_left proc tick unit s in record { own = left.processor_io (other_proc proc); told = left.told }

@@ -7,6 +7,7 @@ use Rattle.ds_base.specs.declared.keys.KeyLine.{KeyLine}
 use Rattle.ds_base.specs.declared.left_out.LeftOut.{LeftOut}
 use Rattle.ds_base.specs.declared.left_out.Stop.{Stop}
 use Rattle.ds_base.specs.declared.memories.Width.{Width}
+use Rattle.ds_base.specs.declared.processors.Proc.{Proc}
 use Rattle.ds_base.specs.declared.processors.Proc.TheVariants.{Nine, Seven}
 use Rattle.ds_base.specs.declared.processors.Raised.{Raised}
 use Rattle.ds_base.specs.declared.ticks.Tick.{Tick}
@@ -16,6 +17,7 @@ use Rattle.arm_core.specs.Effects.{Outcome}
 use Rattle.arm_core.specs.Steps.{fetched}
 use Rattle.arm_core.specs.declared.outcomes.Stepped as arm
 use Rattle.arm_core.specs.declared.outcomes.Stepped.TheVariants.{Cost, Halted, Left}
+use Rattle.ds_card.specs.Cards.{card_due, card_starter}
 use Rattle.ds_dma.specs.declared.controls.Cause.TheVariants as causes
 use Rattle.ds_map.specs.Maps.{MapState}
 use Rattle.ds_map.specs.Moves.{next_unit, unit_moved, unit_refusal, unit_taken}
@@ -50,7 +52,7 @@ use Rattle.ds_machine.specs.Steps.{line_of, machine_concluded, map_of, outcome_o
 use Rattle.ds_machine.specs.Touched.{ByteSet, EachTouches, EveryByte, GeometryDelays, IsAsLong, NoByte, PartSet, RegistersNine, DueNine, StepsNine, RegistersSeven, DueSeven, StepsSeven, Cp15, Itcm, Dtcm, OwnRam, MainRam, PaletteRam, OamRam, KeyLines, Events, CartFile, BytesWhere, bytes_from, machine_graft, seven_changes, seven_shows, step_with, unchanged_by, untouched_by}
 use Rattle.ds_machine.proofs.Commutes.{Commutes, step_waits_commute, taken_commutes, word_commutes}
 use Rattle.ds_machine.proofs.Ticks.{ticked, ticked_so}
-use Rattle.ds_machine.proofs.OwnShares.{is_shared_so, put_own_of, seven_channel, seven_steps}
+use Rattle.ds_machine.proofs.OwnShares.{given, given_to, is_shared_so, put_own_of, seven_channel, seven_steps}
 
 -- Each row of the table of what actors touch is true: by computing, but for what chooses a whole state, and for ARM7's accesses.
 
@@ -273,7 +275,7 @@ module _ (t : MachineState) where
     fetches = λ r at width rest i. refl;
     reads = λ r at width rest i.
         ap (λ (m : MapState). (let left : SevenReach = record r { map = m } in left))
-        (passed.read same_bytes other_units Seven r.map refl at width (passes_at r.map width (place_of Seven r.map.io.wramcnt at)));
+        (passed.read same_bytes other_units Seven r.map refl at width r.now (passes_at r.map width (place_of Seven r.map.io.wramcnt at)));
     writes = λ r at width value rest i.
         ap (λ (m : MapState). (let left : SevenReach = record r { map = m } in left))
         (passed.written same_bytes other_units Seven r.map refl at width r.now value (passes_at r.map width (place_of Seven r.map.io.wramcnt at)));
@@ -422,6 +424,27 @@ module _ (rank : ℕ) (s : MachineState) where
 
 -- ---- each actor
 
+-- ---- the card: by when it is due, and who started its transfer
+
+given_passes : (t s : MachineState) (now : Tick) (starter : Option Proc)
+    → given_to starter now (machine_graft (untouched_by Card s) t s) ≡ machine_graft (untouched_by Card s) t (given_to starter now s)
+given_passes t s now None = refl
+given_passes t s now (Some Nine) = refl
+given_passes t s now (Some Seven) = refl
+
+card_passes : (t s : MachineState) (due : Option Tick) → given due (machine_graft (untouched_by Card s) t s) ≡ machine_graft (untouched_by Card s) t (given due s)
+card_passes t s None = refl
+card_passes t s (Some now) = given_passes t s now (card_starter s.io.card)
+
+given_leaves : (s : MachineState) (now : Tick) (starter : Option Proc) → machine_graft (unchanged_by Card s) s (given_to starter now s) ≡ given_to starter now s
+given_leaves s now None = refl
+given_leaves s now (Some Nine) = refl
+given_leaves s now (Some Seven) = refl
+
+card_leaves : (s : MachineState) (due : Option Tick) → machine_graft (unchanged_by Card s) s (given due s) ≡ given due s
+card_leaves s None = refl
+card_leaves s (Some now) = given_leaves s now (card_starter s.io.card)
+
 pub each_touches : EachTouches
 each_touches rank KeyScript s = record {
   passes = λ t long. ap (λ (m : MachineState). (let step : Step = Makes m [] in step)) (line_passes t s s.keys);
@@ -434,7 +457,10 @@ each_touches rank (Timer Seven number) s = record { passes = λ t long. refl; le
 each_touches rank Divider s = record { passes = λ t long. refl; leaves = refl }
 each_touches rank SquareRoot s = record { passes = λ t long. refl; leaves = refl }
 each_touches rank Geometry s = record { passes = λ t long. refl; leaves = refl }
-each_touches rank Card s = record { passes = λ t long. refl; leaves = refl }
+each_touches rank Card s = record {
+  passes = λ t long. ap (λ (m : MachineState). (let step : Step = Makes m [] in step)) (card_passes t s (card_due s.io.card));
+  leaves = card_leaves s (card_due s.io.card);
+}
 each_touches rank (Dma Nine channel) s = record {
   passes = λ t. unit_pass rank s t channel;
   leaves = left_as_it_was rank (Dma Nine channel) s (λ t. unit_pass rank s t channel);

@@ -164,15 +164,16 @@ pub record SettleLeaves (old new : IoState) : Type 0 where
   pub halted : new.nine.halted ≡ old.nine.halted
   pub timers : new.nine.timers ≡ old.nine.timers
   pub keycnt : new.nine.keycnt ≡ old.nine.keycnt
+  pub card : new.card ≡ old.card
 
 settle_by : (tick : Tick) (half : Bool) (u : IoState) → SettleLeaves u (if half then record (level_told u) { nine = processor_io_triggered (level_told u).nine causes.Geometry tick } else level_told u)
-settle_by tick true u = record { video = refl; gx = refl; seven = refl; halted = refl; timers = refl; keycnt = refl }
-settle_by tick false u = record { video = refl; gx = refl; seven = refl; halted = refl; timers = refl; keycnt = refl }
+settle_by tick true u = record { video = refl; gx = refl; seven = refl; halted = refl; timers = refl; keycnt = refl; card = refl }
+settle_by tick false u = record { video = refl; gx = refl; seven = refl; halted = refl; timers = refl; keycnt = refl; card = refl }
 
 pub settle_leaves : (tick : Tick) (u : IoState) → SettleLeaves u (settled tick u)
 settle_leaves tick u =
     let l = settle_by tick (is_half_empty u.gx) u in
-    record { video = l.video; gx = l.gx; seven = l.seven; halted = l.halted; timers = l.timers; keycnt = l.keycnt }
+    record { video = l.video; gx = l.gx; seven = l.seven; halted = l.halted; timers = l.timers; keycnt = l.keycnt; card = l.card }
 
 -- where no channel is to be triggered, none is
 pub settled_dma : (tick : Tick) (u : IoState) → IsIo u → (is_half_empty u.gx && awaits_geometry u.nine.dma) ≡ false → (settled tick u).nine.dma ≡ u.nine.dma

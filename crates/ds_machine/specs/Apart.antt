@@ -36,5 +36,5 @@ abbrev pub nine_own_of : MachineState → NineOwn
 nine_own_of s = record { part = record { nine = s.nine; palette = s.palette; oam = s.oam }; share = shared_of s.shared s.io }
 
 -- the actors outside ARM9's fence
-abbrev pub IsOutside : actor.Actor → Type 0
-IsOutside a = (a ≢ Processor Nine) × (Fences a Nine → ⊥)
+abbrev pub IsOutside : actor.Actor → MachineState → Type 0
+IsOutside a s = (a ≢ Processor Nine) × (Fences a Nine s → ⊥)

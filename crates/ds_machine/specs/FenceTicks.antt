@@ -2,12 +2,13 @@ use Rattle.std.specs.Prelude.{List, [], ◌∷◌, map, Option, None}
 use Rattle.ds_base.specs.declared.processors.Proc.{Proc}
 use Rattle.ds_base.specs.declared.processors.Proc.TheVariants.{Nine, Seven}
 use Rattle.ds_base.specs.declared.ticks.Tick.{Tick}
+use Rattle.ds_card.specs.Cards.{card_due_for}
 use Rattle.ds_ports.specs.Acting.{acting_io_due}
 use Rattle.ds_ports.specs.Dues.{io_due}
 use Rattle.ds_ports.specs.Io.{IoState}
 use Rattle.ds_runs.specs.Actors.{actors}
 use Rattle.ds_runs.specs.declared.actors.Actor as actor
-use Rattle.ds_runs.specs.declared.actors.Actor.TheVariants.{KeyScript, Video, Timer, Geometry, Dma}
+use Rattle.ds_runs.specs.declared.actors.Actor.TheVariants.{KeyScript, Video, Timer, Geometry, Card, Dma}
 use Rattle.ds_machine.specs.Reference.{keys_due}
 use Rattle.ds_machine.specs.States.{MachineState}
 
@@ -25,6 +26,7 @@ fence_due s proc KeyScript = keys_due s.keys
 fence_due s proc Video = io_due Video s.io
 fence_due s proc (Timer each number) = of_proc each proc (io_due (Timer each number) s.io)
 fence_due s proc Geometry = of_proc Nine proc (acting_io_due Geometry s.io)
+fence_due s proc Card = card_due_for proc s.io.card
 fence_due s proc (Dma each channel) = of_proc each proc (io_due (Dma each channel) s.io)
 fence_due s proc a = None
 

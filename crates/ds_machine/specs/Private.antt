@@ -1,4 +1,4 @@
-use Rattle.std.specs.Prelude.{ℕ, ◌↔◌, ◌≡◌, ◌<◌, ◌≤◌, ◌==◌, ◌&&◌, ◌||◌, not, Bool, true, false, if◌then◌else◌, Contains, List, [], ◌∷◌, Option, Some, None}
+use Rattle.std.specs.Prelude.{ℕ, ◌↔◌, ◌≡◌, ◌<◌, ◌≤◌, ◌==◌, ◌&&◌, ◌||◌, not, Bool, true, false, Contains, List, [], ◌∷◌, Option, Some, None}
 use Rattle.ds_base.specs.Accesses.{Access, Fetch, MemoryMachine, Read, Write}
 use Rattle.ds_base.specs.Bits.{bit, bits}
 use Rattle.ds_base.specs.declared.left_out.LeftOut.{LeftOut}
@@ -95,12 +95,12 @@ pub record IsHarmless (s : MachineState) (proc : Proc) : Type 0 where
 pub record IsFence (s : MachineState) (proc : Proc) (fence : Tick) : Type 0 where
   pub rank : ℕ
   pub there : due_at (acting_dues s) rank ≡ Some fence
-  pub fences : Fences (actor_of rank) proc
-  pub least : (other : ℕ) (at : Tick) → due_at (acting_dues s) other ≡ Some at → Fences (actor_of other) proc → fence.0 ≤ at.0
+  pub fences : Fences (actor_of rank) proc s
+  pub least : (other : ℕ) (at : Tick) → due_at (acting_dues s) other ≡ Some at → Fences (actor_of other) proc s → fence.0 ≤ at.0
 
 -- a tick is below it
 abbrev pub IsBelowFence : MachineState → Proc → Tick → Type 0
-IsBelowFence s proc tick = (rank : ℕ) (at : Tick) → due_at (acting_dues s) rank ≡ Some at → Fences (actor_of rank) proc → tick.0 < at.0
+IsBelowFence s proc tick = (rank : ℕ) (at : Tick) → due_at (acting_dues s) rank ≡ Some at → Fences (actor_of rank) proc s → tick.0 < at.0
 
 -- a processor's next step may be taken before its turn
 pub record IsAhead (s : MachineState) (proc : Proc) : Type 0 where

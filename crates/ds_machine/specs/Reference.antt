@@ -19,7 +19,7 @@ use Rattle.video2d.specs.Scans.{scan_due, scan_due_tick, starts_vblank}
 use Rattle.video2d.specs.Videos.{video_answer}
 use Rattle.video2d.specs.declared.videos.Shown as display
 
--- The reference machine. The card isn't built yet; it is never due.
+-- The reference machine.
 
 -- what a run puts out: a frame became whole at this tick; whether waiting geometry lists were swapped there; and the lists of the last swap after it
 pub record Shown : Type 0 where
@@ -64,9 +64,9 @@ abbrev pub after_line : List KeyLine → MachineState → MachineState
 after_line [] s = s
 after_line (line ∷ lines) s = one_event (record (with_io s (keys_pressed s.io line.pressed)) { keys = lines })
 
--- the event of an actor behind the ports
+-- the event of an actor behind the ports, with the cartridge's file
 abbrev pub after_event : actor.Actor → MachineState → MachineState
-after_event a s = one_event (with_io s (io_event a s.io))
+after_event a s = one_event (with_io s (io_event s.file a s.io))
 
 -- geometry's: the head command is done, and where that ends a stall ARM9 is due after that tick at the earliest, also while DMA still holds it; while
 -- it is halted it isn't due: a stall's end wakes none (our choice)

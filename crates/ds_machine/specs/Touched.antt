@@ -105,7 +105,7 @@ changed_by (Timer proc number) = reaching (timers_of proc ∷ irq_of proc ∷ []
 changed_by Divider = reaching (Division ∷ []) (Events ∷ []) NoBytes
 changed_by SquareRoot = reaching (parts.SquareRoot ∷ []) (Events ∷ []) NoBytes
 changed_by Geometry = reaching (parts.Geometry ∷ Released ∷ []) (DueNine ∷ Events ∷ []) NoBytes
-changed_by Card = reaching [] (Events ∷ []) NoBytes
+changed_by Card = reaching (parts.Card ∷ IrqNine ∷ IrqSeven ∷ DmaNine ∷ DmaSeven ∷ []) (Events ∷ []) NoBytes
 changed_by (Dma Nine channel) = reaching all_units (DueNine ∷ MainRam ∷ PaletteRam ∷ OamRam ∷ Events ∷ []) BytesOfBoth
 changed_by (Dma Seven channel) = reaching seven_changes (DueSeven ∷ OwnRam ∷ MainRam ∷ Events ∷ []) BytesOfSeven
 changed_by (Processor Nine) =
@@ -117,6 +117,7 @@ abbrev pub used_by : actor.Actor → Reached
 used_by KeyScript = reaching (KeycntNine ∷ KeycntSeven ∷ []) [] NoBytes
 used_by Video = reaching (BankControls ∷ []) (PaletteRam ∷ OamRam ∷ []) VideoBytes
 used_by Geometry = reaching (HaltNine ∷ []) [] NoBytes
+used_by Card = reaching [] (CartFile ∷ []) NoBytes
 used_by (Dma Seven channel) = reaching seven_shows [] NoBytes
 used_by (Processor Seven) = reaching seven_shows [] NoBytes
 used_by a = reaching [] [] NoBytes

@@ -55,7 +55,7 @@ impl Parts {
         requires run { self.old.io.gx.geometry.numbers.run ≤ 2 ^ 56 }
         ensures { reference_step geometry_rank self.old ≡ Makes self.new [] }
     {
-        self.io.event(Actor::Geometry);
+        self.io.event(Actor::Geometry, &[]);
         self.events += 1;
     }
 

@@ -1,6 +1,6 @@
 //! The events: the steps of all actors but the processors.
 
-ghost use Rattle.std.specs.Prelude.{◌≡◌, ◌<◌, ◌≤◌, ◌^◌, ◌&&◌, false, IsSome, Some};
+ghost use Rattle.std.specs.Prelude.{◌≡◌, ◌<◌, ◌≤◌, ◌^◌, ◌&&◌, false, IsSome, Some, []};
 ghost use Rattle.ds_base.specs.declared.processors.Proc.TheVariants.{Nine};
 ghost use Rattle.ds_dma.specs.States.{dma_due};
 ghost use Rattle.ds_map.specs.Moves.{unit_moved, unit_refusal};
@@ -10,6 +10,7 @@ ghost use Rattle.ds_ports.specs.Io.{io_event, io_of, video_done};
 ghost use Rattle.ds_runs.specs.Actors.{IsNumbered};
 ghost use Rattle.ds_machine.specs.Channels.{delayed_past, moved_by, one_event};
 ghost use Rattle.ds_machine.specs.Reference.{after_event, awake, due_by, past_stall, step_by, swapped_if};
+ghost use Rattle.ds_machine.specs.States.{with_file};
 ghost use Rattle.ds_machine.specs.StepAnswers.{stepped_of};
 ghost use Rattle.ds_machine.specs.Steps.{ended, map_of, with_io, with_map, with_processor};
 ghost use Rattle.video2d.specs.Scans.{scan_due};
@@ -48,16 +49,17 @@ impl Parts {
         Done::Made
     }
 
-    /// The event of an actor behind the ports.
-    pub fn step_event(&mut self, actor: Actor, tick: Tick)
+    /// The event of an actor behind the ports, with the cartridge's file.
+    #[tactic(auto, using(crate::proofs::Files::event_with))]
+    pub fn step_event(&mut self, file: &[u8], actor: Actor, tick: Tick)
         requires numbered { IsNumbered actor }
         requires due { io_due actor self.old.io ≡ Some tick }
         requires early { tick.0 ≤ 2 ^ 56 }
         requires counted { self.old.events ≤ 2 ^ 61 }
         requires run { actor ≡ actors.Geometry → self.old.io.gx.geometry.numbers.run ≤ 2 ^ 56 }
-        ensures { self.new ≡ ended tick (after_event actor self.old) }
+        ensures { with_file file.now self.new ≡ ended tick (after_event actor (with_file file.now self.old)) }
     {
-        self.io.event(actor);
+        self.io.event(actor, file);
         self.end_event(tick);
     }
 
@@ -66,11 +68,11 @@ impl Parts {
         requires due { io_due actors.Geometry self.old.io ≡ Some tick }
         requires early { tick.0 ≤ 2 ^ 56 }
         requires run { self.old.io.gx.geometry.numbers.run ≤ 2 ^ 56 }
-        ensures { self.new ≡ with_processor Nine (with_io self.old (io_event actors.Geometry self.old.io))
+        ensures { self.new ≡ with_processor Nine (with_io self.old (io_event [] actors.Geometry self.old.io))
             (record self.old.nine.processor { due = past_stall self.old.io self.old.nine.processor.due }) }
     {
         let stalled = self.io.gx().stalled();
-        self.io.event(Actor::Geometry);
+        self.io.event(Actor::Geometry, &[]);
         if stalled && !self.io.gx().stalled() && !self.io.processor(Proc::Nine).is_halted() {
             self.nine.processor.delay_past(false, tick.0 + 1);
         }

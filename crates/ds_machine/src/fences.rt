@@ -68,7 +68,10 @@ impl Parts {
         ensures { Some result ≡ first_from 0 (fence_dues self.now Nine) }
     {
         let geometry = entry(12, self.geometry_due());
-        let others = earlier(geometry, self.first_channel(Proc::Nine, 14));
+        let card = entry(13, self.io.card().due_for(Proc::Nine));
+        let channels = self.first_channel(Proc::Nine, 14);
+        let later = earlier(card, channels);
+        let others = earlier(geometry, later);
         self.first_before(Proc::Nine, 2, others)
     }
 
@@ -76,7 +79,9 @@ impl Parts {
     fn first_fence_of_seven(&self) -> Due
         ensures { Some result ≡ first_from 0 (fence_dues self.now Seven) }
     {
-        let others = self.first_channel(Proc::Seven, 18);
+        let card = entry(13, self.io.card().due_for(Proc::Seven));
+        let channels = self.first_channel(Proc::Seven, 18);
+        let others = earlier(card, channels);
         self.first_before(Proc::Seven, 6, others)
     }
 

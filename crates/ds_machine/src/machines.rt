@@ -2,6 +2,7 @@
 
 ghost use Rattle.std.specs.Prelude.{◌≡◌, ◌↔◌, ◌<◌, ◌≤◌, ◌^◌, false, true, slice_index, length, IfOk, IfSome, IsSome};
 ghost use Rattle.ds_base.specs.Memories.{memory_size};
+ghost use Rattle.ds_card.specs.Cards.{IsCard};
 ghost use Rattle.ds_ipc.specs.Ipcs.{AreSides};
 ghost use Rattle.ds_ports.specs.Acting.{is_quiet};
 ghost use Rattle.ds_ports.specs.Io.{io_at_boot};
@@ -109,8 +110,7 @@ impl Machine {
         ensures step { Steps rank (with_file cart.now self.old) result (with_file cart.now self.new) }
         ensures running { RunsAfter result (with_file cart.now self.new) }
     {
-        let _ = cart;
-        let done = self.parts.step_actor(rank);
+        let done = self.parts.step_actor(cart.bytes(), rank);
         let next_event = self.parts.next_event();
         self.next_event = next_event;
         done
@@ -258,17 +258,19 @@ impl Machine {
     }
 
     /// Does nothing; its contract states what holds of every machine: each unit's numbers are those that it can have, and the lines of the key script
-    /// that are to come rise; neither FIFO between the processors holds more than 16 words, each of 32 bits; CPSR and each SPSR of both processors
-    /// have no bits but those that are kept; and no more than 324 entries wait for geometry, whose open lists and those of the last swap have at most
-    /// 6,144 vertices and 2,048 polygons.
+    /// that are to come rise; neither FIFO between the processors holds more than 16 words, each of 32 bits; the card's ports have no bits but those
+    /// that are kept, and a transfer that is busy isn't past its words; CPSR and each SPSR of both processors have no bits but those that are kept;
+    /// and no more than 324 entries wait for geometry, whose open lists and those of the last swap have at most 6,144 vertices and 2,048 polygons.
     pub fn laws(&self)
         ensures parts { HasSoundParts self.now }
         ensures ipc { AreSides self.now.io.ipc }
         ensures statuses { HasBothStatuses self.now }
+        ensures card { IsCard self.now.io.card }
         ensures geometry { IsGx self.now.io.gx }
     {
         self.parts.laws();
         self.parts.io.ipc().laws();
+        self.parts.io.card().laws();
         self.parts.io.gx().laws();
     }
 

@@ -9,6 +9,7 @@ ghost use Rattle.ds_machine.specs.TurnSteps.{MayStep};
 ghost use Rattle.ds_machine.specs.GuardedSteps.{IsFreeFor};
 ghost use Rattle.ds_machine.specs.Processors.{stop_in};
 ghost use Rattle.ds_machine.specs.Reference.{awake, due_by, step_by};
+ghost use Rattle.ds_machine.specs.States.{with_file};
 ghost use Rattle.ds_machine.specs.StepAnswers.{stepped_of, Steps};
 ghost use Rattle.ds_machine.specs.Counting.{RunsWithSome};
 ghost use Rattle.ds_machine.specs.Touching.{DataStaysNear, DataStaysPrivate};
@@ -26,30 +27,32 @@ use ds_runs::Actor;
 
 impl Parts {
     /// The step of the least actor, or of the least acting one, where its step doesn't observe geometry, or of a processor that may step before its
-    /// turn, on a machine that goes on.
+    /// turn, on a machine that goes on, with the cartridge's file.
     #[inline(always)]
-    pub fn step_actor(&mut self, rank: u8) -> Done
+    pub fn step_actor(&mut self, file: &[u8], rank: u8) -> Done
         requires may { MayStep self.old rank }
         requires running { RunsWithSome self.old }
-        ensures { Steps rank self.old result self.new }
+        ensures { Steps rank (with_file file.now self.old) result (with_file file.now self.new) }
     {
         let actor = Actor::of(rank);
         match self.due_by(actor) {
-            Some(tick) => self.step_at(rank, actor, tick),
+            Some(tick) => self.step_at(file, rank, actor, tick),
             None => Done::Made,
         }
     }
 
-    /// The step of an actor that is due at a tick.
+    /// The step of an actor that is due at a tick, with the cartridge's file.
     #[inline(always)]
-    fn step_at(&mut self, rank: u8, actor: Actor, tick: Tick) -> Done
+    #[tactic(auto, using(crate::proofs::Files::awake_with))]
+    fn step_at(&mut self, file: &[u8], rank: u8, actor: Actor, tick: Tick) -> Done
         requires numbered { IsNumbered actor }
         requires due { due_by actor self.old ≡ Some tick }
         requires early { tick.0 ≤ 2 ^ 56 }
         requires counted { (proc : Proc) → actor ≡ Processor proc → (processor_of self.old proc).steps ≤ 2 ^ 61 }
         requires events { self.old.events ≤ 2 ^ 61 }
         requires run { actor ≡ Geometry → self.old.io.gx.geometry.numbers.run ≤ 2 ^ 56 }
-        ensures { awake (Some tick) (step_by rank actor self.old) ≡ stepped_of self.old result self.new }
+        ensures { awake (Some tick) (step_by rank actor (with_file file.now self.old))
+            ≡ stepped_of (with_file file.now self.old) result (with_file file.now self.new) }
     {
         match actor {
             Actor::Processor(proc) => self.step_processor(rank, proc, tick),
@@ -58,7 +61,7 @@ impl Parts {
             Actor::Dma { proc, channel } => self.step_channel(rank, proc, channel, tick),
             Actor::Geometry => self.step_geometry(rank, tick),
             _ => {
-                self.step_event(actor, tick);
+                self.step_event(file, actor, tick);
                 Done::Made
             }
         }

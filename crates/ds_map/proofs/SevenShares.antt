@@ -1,4 +1,4 @@
-use Rattle.std.proofs.Common.{ℕ, ◌≡◌, ◌<◌, ◌+◌, ◌-◌, ◌%◌, ◌==◌, Bool, true, false, ◌&&◌, nat_le, nat_lt, if◌then◌else◌, Option, Some, None, List, [], ◌∷◌, length, refl, sym, ◌∙◌, ap, subst, arith}
+use Rattle.std.proofs.Common.{ℕ, ◌≡◌, ◌<◌, ◌+◌, ◌%◌, ◌==◌, Bool, true, false, nat_le, nat_lt, if◌then◌else◌, Option, Some, None, List, length, refl, sym, ◌∙◌, ap, subst, arith}
 use Rattle.ds_base.specs.Memories.{memory_size}
 use Rattle.ds_base.specs.Numbers.{aligned_down, width_bytes}
 use Rattle.ds_base.specs.declared.left_out.Stop.{Stop}

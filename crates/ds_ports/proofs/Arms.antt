@@ -2,9 +2,7 @@ use Rattle.std.specs.Prelude.{◌||◌}
 use Rattle.std.proofs.Common.{ℕ, zero, suc, ◌≡◌, ◌<◌, ◌≤◌, ◌+◌, ◌-◌, ◌/◌, ◌%◌, inl, inr, ◌==◌, ◌&&◌, not, Bool, true, false, true≢false, if◌then◌else◌, List, [], ◌∷◌, length, map, slice_set, Some, None, refl, sym, ◌∙◌, ap, subst, arith, rules, length-set}
 use Rattle.std.proofs.lemmas.List.{length-map}
 use Rattle.ds_base.proofs.Choices.{both, equal, one_of}
-use Rattle.ds_base.specs.Interrupts.{interrupt_bit}
 use Rattle.ds_base.specs.Numbers.{width_bytes}
-use Rattle.ds_base.specs.declared.interrupts.Interrupt.TheVariants.{Keys}
 use Rattle.ds_base.specs.declared.memories.Width.{Width}
 use Rattle.ds_base.specs.declared.processors.Proc.{Proc}
 use Rattle.ds_base.specs.declared.processors.Proc.TheVariants.{Nine, Seven}
@@ -17,7 +15,6 @@ use Rattle.ds_dma.specs.declared.controls.Cause.TheVariants.{Geometry}
 use Rattle.ds_ports.specs.Acting.{is_armed}
 use Rattle.ds_ports.specs.Io.{IoState}
 use Rattle.ds_ports.specs.Ports.{port_read, port_written}
-use Rattle.ds_ports.specs.ProcessorIo.{ProcessorIoState, keys_hold, keys_told, processor_io_raised}
 use Rattle.ds_ports.specs.RegisterMap.{PortRow, register_map, row_bytes, slot_in, slot_of}
 use Rattle.ds_ports.specs.Registers.{after_write}
 use Rattle.ds_ports.specs.declared.registers.Register.{Register}

@@ -203,9 +203,9 @@ is_settled u =
     ((irq_levelled u.nine.irq (gx_level u.gx)).if_ == u.nine.irq.if_)
     && (not (is_half_empty u.gx && awaits_geometry u.nine.dma) && (release_of u == u.released))
 
--- What the event of an actor behind the ports leaves, where it is due, with the cartridge's file, which the card alone reads. Four have none here, and
--- leave all: the key script, which presses keys; the display, whose event stands above, since it reads memories; a DMA channel, whose event is an
--- access of memory and stands below in parts; and a processor, whose steps are instructions.
+-- What the event of an actor behind the ports leaves, where it is due, with the cartridge's file, which the card alone reads. Four have none here,
+-- and leave all: the key script, which presses keys; the display, whose event stands above, since it reads memories; a DMA channel, whose event is
+-- an access of memory and stands below in parts; and a processor, whose steps are instructions.
 abbrev pub io_event : List ℕ → actor.Actor → IoState → IoState
 io_event file (Timer proc number) u = timer_overflows proc number u
 io_event file Divider u = division_done u

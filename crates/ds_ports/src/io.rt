@@ -127,8 +127,8 @@ impl Io {
 
     /// The event of an actor behind the ports that is due: a timer overflows and its interrupts are raised, a division or a square root is done, or
     /// the head command of geometry, which may end a stall: then ARM9's channels are due at the next tick or later; or the card gives the next word
-    /// of the cartridge's file, which triggers its starter's channels, or ends a transfer without words, which raises an interrupt there. The display's is
-    /// told by `show`, a DMA channel's by `move_channel`.
+    /// of the cartridge's file, which triggers its starter's channels, or ends a transfer without words, which raises an interrupt there. The
+    /// display's is told by `show`, a DMA channel's by `move_channel`.
     pub fn event(&mut self, actor: Actor, file: &[u8])
         requires numbered { IsNumbered actor }
         requires due { IsSome (io_due actor self.old) }

@@ -11,21 +11,21 @@
 //! of geometry what no access changes (`LeavesGeometry`), and adds four entries at most to those that wait for it (`grows`). Where there is
 //! no room for them, one of ARM9's is ignored (`guarded_written`). Clause `refusal`: the stop for which a write is refused, which leaves
 //! all, exactly where it would write HALTCNT's modes 1 or 3, enable a DMA channel with a start that is left out, or start a transfer of the
-//! card.
+//! card by a command that is left out. A read may take a word of the card, at its tick: `after_read` is what it leaves.
 //!
 //! `register_laws`: each register of the maps stands at a multiple of its width (`rows`). An access at a multiple of its width that lies in
 //! no one register goes through the registers that begin in it, each whole, in ascending address: what it reads is theirs, 0 where none is,
 //! and leaves all; a write writes them one after another, and is refused for the first that refuses it (`ascending`).
 //!
-//! `io_due` is when each unit is due, `first_due` the first of them; `first_acting` is the first that acts of those that are due, which all
-//! do but quiet geometry; it is kept, and found again only where it may have changed. `is_quiet` is true exactly where geometry is due,
-//! GXSTAT's selector is 0, no channel of ARM9's is enabled with the start of the geometry FIFO, whether or not it runs, and no stall holds
-//! ARM9. `event` is the event of each actor behind the ports (`io_event`); `move_channel` and `put_back` are those of DMA channels. `show`
-//! is the display's, with palettes and objects: its answer (`answer`), and what it leaves, with the interrupts that it raises at both
-//! processors and the channels that it triggers (`state`); where it stops, all stays. `swap` is line 192's, and clause `lists` says of
-//! which commands its lists are. `settle` is what follows a step (`settled`): the level of geometry's interrupt, the channels that wait for
-//! it, and that a stall's end is forgotten where it holds back no channel; `is_settled` is whether it would change anything. `laws` tells
-//! what holds of timers, channels and what waits for geometry always.
+//! `io_due` is when each unit is due, `first_due` the first of them; `first_acting` is the first that acts of those that are due, which all do but
+//! quiet geometry; it is kept, and found again only where it may have changed. `is_quiet` is true exactly where geometry is due, GXSTAT's selector is
+//! 0, no channel of ARM9's is enabled with the start of the geometry FIFO, whether or not it runs, and no stall holds ARM9. `event` is the event of
+//! each actor behind the ports (`io_event`), the card's with the cartridge's file; `move_channel` and `put_back` are those of DMA channels. `show` is
+//! the display's, with palettes and objects: its answer (`answer`), and what it leaves, with the interrupts that it raises at both processors and the
+//! channels that it triggers (`state`); where it stops, all stays. `swap` is line 192's, and clause `lists` says of which commands its lists are.
+//! `settle` is what follows a step (`settled`): the level of geometry's interrupt, the channels that wait for it, and that a stall's end is forgotten
+//! where it holds back no channel; `is_settled` is whether it would change anything. `laws` tells what holds of timers, channels and what waits for
+//! geometry always.
 //!
 //! `Io` is the `Units` with two things that are kept of them: the first that acts, and whether they are settled. It lends them, so that what
 //! they tell is asked of it by the same name; only what changes them is a call of its own, which keeps both so.

@@ -84,10 +84,7 @@ fn ignores(width: Width, register: Register) -> bool
     width != Width::Word
         && matches!(
             register,
-            Register::Ipcfifosend
-                | Register::Ipcfiforecv
-                | Register::CardData
-                | Register::GxCommand
+            Register::Ipcfifosend | Register::Ipcfiforecv | Register::CardData | Register::GxCommand
         )
 }
 

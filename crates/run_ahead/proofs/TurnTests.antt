@@ -10,6 +10,7 @@ use Rattle.ds_base.specs.declared.processors.Proc.{Proc}
 use Rattle.ds_base.specs.declared.processors.Proc.TheVariants.{Nine, Seven}
 use Rattle.ds_base.specs.declared.ticks.Due.{Due}
 use Rattle.ds_base.specs.declared.ticks.Tick.{Tick}
+use Rattle.ds_card.specs.Cards.{card_due_for}
 use Rattle.arm_core.specs.Footprints.{access_bytes}
 use Rattle.arm_core.specs.Registers.{RegisterState}
 use Rattle.arm_core.specs.Steps.{fetched}
@@ -115,11 +116,12 @@ some_first a one rest = let k = pair_first one rest in let g = then_first a k.0 
 
 pub fence_there : (s : MachineState) (proc : Proc) → (fence : Tick) × IsFence s proc fence
 fence_there s Nine =
-    let rest = earlier (first_from 2 (timer_dues s.io Nine)) (earlier (due_with_rank 12 (acting_io_due Geometry s.io)) (first_from 14 (channel_dues s.io Nine))) in
+    let rest = earlier (first_from 2 (timer_dues s.io Nine)) (earlier (due_with_rank 12 (acting_io_due Geometry s.io))
+    (earlier (due_with_rank 13 (card_due_for Nine s.io.card)) (first_from 14 (channel_dues s.io Nine)))) in
     let k = some_first (due_with_rank 0 (keys_due s.keys)) (record { tick = scan_due_tick s.io.video.scan; rank = 1 }) rest in
     (k.0.tick, fence_is s Nine k.0 (k.1 ∙ sym (nine_by_parts s)))
 fence_there s Seven =
-    let rest = earlier (first_from 6 (timer_dues s.io Seven)) (first_from 18 (channel_dues s.io Seven)) in
+    let rest = earlier (first_from 6 (timer_dues s.io Seven)) (earlier (due_with_rank 13 (card_due_for Seven s.io.card)) (first_from 18 (channel_dues s.io Seven))) in
     let k = some_first (due_with_rank 0 (keys_due s.keys)) (record { tick = scan_due_tick s.io.video.scan; rank = 1 }) rest in
     (k.0.tick, fence_is s Seven k.0 (k.1 ∙ sym (seven_by_parts s)))
 

@@ -1,5 +1,4 @@
-use Rattle.std.proofs.Common.{◌≡◌, sym, ◌∙◌, subst, arith}
-use Rattle.ds_machine.specs.NextEvents.{least_kept}
+use Rattle.std.proofs.Common.{subst, arith}
 use Rattle.ds_machine.specs.States.{MachineState}
 use Rattle.ds_machine.specs.TurnSteps.{HasLimit}
 use Rattle.ds_machine.proofs.GoingSteps.{limit_so}

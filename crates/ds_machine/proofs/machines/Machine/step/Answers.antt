@@ -1,9 +1,9 @@
-use Rattle.std.proofs.Common.{sym, subst}
+use Rattle.std.proofs.Common.{ℕ, List, sym, subst}
 use Rattle.ds_machine.specs.Counting.{IsRunning, last_limit}
 use Rattle.ds_machine.specs.States.{MachineState, with_file}
 use Rattle.ds_machine.specs.StepAnswers.{Steps}
 use Rattle.ds_machine.specs.TurnSteps.{MayStep}
-use Rattle.ds_machine.proofs.Files.{may_step_put, steps_put}
+use Rattle.ds_machine.proofs.Files.{may_step_put}
 use Rattle.ds_machine.proofs.Running.{runs_after}
 use Rattle.ds_machine.proofs.Statuses.{statuses_done}
 use Rattle.ds_machine.proofs.machines.Machine.step.Goals as goal
@@ -13,14 +13,23 @@ step_actor-done-requires-clause-running c =
     let file = c.args.cart.now in (file, subst (λ (s : MachineState). IsRunning last_limit (with_file file s)) (sym c.self.view_is) c.requires.running)
 
 pub invariant_of-self : goal.invariant_of-self
-invariant_of-self c = (c.next_event-next_event.ensures, statuses_done c.self.inside.parts c.step_actor-done.new.self c.args.rank c.step_actor-done.result c.self.invariant.1 c.step_actor-done.ensures)
+invariant_of-self c =
+    let file = c.bytes.result.now in
+    let old = c.self.inside.parts in
+    let next = c.step_actor-done.new.self in
+    let has = c.self.invariant.1 in
+    let left =
+    statuses_done (with_file file old) (with_file file next) c.args.rank c.step_actor-done.result (record { nine = has.nine; seven = has.seven })
+    c.step_actor-done.ensures in
+    (c.next_event-next_event.ensures, record { nine = left.nine; seven = left.seven })
 
 pub returns-clause-step : goal.returns-clause-step
 returns-clause-step c =
-    let file = c.args.cart.now in
     let next = c.step_actor-done.new.self in
+    let file = c.args.cart.now in
     subst (λ (s : MachineState). Steps c.args.rank (with_file file s) c.step_actor-done.result (with_file file next)) c.self.view_is
-    (steps_put file c.args.rank c.self.inside.parts next c.step_actor-done.result c.step_actor-done.ensures)
+    (subst (λ (f : List ℕ). Steps c.args.rank (with_file f c.self.inside.parts) c.step_actor-done.result (with_file f next)) c.bytes.ensures.bytes
+    c.step_actor-done.ensures)
 
 pub returns-clause-running : goal.returns-clause-running
 returns-clause-running c =
@@ -30,4 +39,4 @@ returns-clause-running c =
     runs_after (with_file file old) (with_file file next) c.args.rank c.step_actor-done.result
     (subst (λ (s : MachineState). IsRunning last_limit (with_file file s)) (sym c.self.view_is) c.requires.running)
     (may_step_put file old c.args.rank (subst (λ (s : MachineState). MayStep s c.args.rank) (sym c.self.view_is) c.requires.may))
-    (steps_put file c.args.rank old next c.step_actor-done.result c.step_actor-done.ensures)
+    (subst (λ (f : List ℕ). Steps c.args.rank (with_file f old) c.step_actor-done.result (with_file f next)) c.bytes.ensures.bytes c.step_actor-done.ensures)

@@ -1,6 +1,17 @@
-use Rattle.std.proofs.Common.{sym}
+use Rattle.std.proofs.Common.{sym, ap}
+use Rattle.ds_machine.specs.States.{MachineState}
 use Rattle.ds_machine.proofs.FenceFirsts.{seven_by_parts}
 use Rattle.ds_machine.proofs.parts.Parts.first_fence_of_seven.Goals as goal
 
 pub returns : goal.returns
-returns c = rw (c.first_before.ensures, c.first_channel-others.ensures) (sym (seven_by_parts c.args.self.now))
+returns c =
+    rw (
+      c.first_before.ensures,
+      c.earlier-others.ensures,
+      c.entry-card.ensures,
+      c.due_for.ensures,
+      c.card.ensures,
+      c.deref.ensures,
+      ap (λ (m : MachineState). m.io) c.self.view_is,
+      c.first_channel-channels.ensures,
+    ) (sym (seven_by_parts c.args.self.now))

@@ -1,6 +1,8 @@
-use Rattle.std.proofs.Common.{Some, sym}
+use Rattle.std.proofs.Common.{Some, sym, ◌∙◌}
+use Rattle.ds_machine.specs.States.{with_file}
 use Rattle.ds_machine.specs.StepAnswers.{stepped_of}
 use Rattle.ds_machine.proofs.DueTicks.{low_rank, may_due, may_early, steps_as}
+use Rattle.ds_machine.proofs.Files.{due_put}
 use Rattle.ds_machine.proofs.Running.{few_events, few_steps, may_fit_run}
 use Rattle.ds_machine.proofs.parts.Parts.step_actor.Goals as goal
 
@@ -23,8 +25,11 @@ step_at-requires-clause-run c = may_fit_run c.args.self.now c.args.rank c.of-act
 pub returns-in-Some : goal.returns-in-Some
 returns-in-Some c =
     let s = c.args.self.now in
-    steps_as s c.args.rank c.of-actor.result (Some c.in-Some.tick) (stepped_of s c.step_at.result c.step_at.new.self) (sym c.of-actor.ensures.actor) (sym c.in-Some.ensures)
-    c.step_at.ensures
+    let file = c.args.file.now in
+    let a = c.of-actor.result in
+    let due = Some c.in-Some.tick in
+    let came = stepped_of (with_file file s) c.step_at.result (with_file file c.step_at.new.self) in
+    steps_as (with_file file s) c.args.rank a due came (sym c.of-actor.ensures.actor) (due_put file a s ∙ sym c.in-Some.ensures) c.step_at.ensures
 
 pub returns-in-None : goal.returns-in-None
 returns-in-None c = absurd (may_due c.args.self.now c.args.rank c.of-actor.result c.requires.may (sym c.of-actor.ensures.actor) (sym c.in-None.ensures))

@@ -1,4 +1,4 @@
-use Rattle.std.proofs.Common.{ℕ, ◌≡◌, ◌<◌, ◌≤◌, refl, sym, ◌∙◌, ap, subst}
+use Rattle.std.proofs.Common.{ℕ, ◌≤◌, sym, ◌∙◌, ap, subst}
 use Rattle.ds_base.specs.declared.processors.Arch.TheVariants.{V5}
 use Rattle.ds_base.specs.declared.processors.Proc.TheVariants.{Nine}
 use Rattle.arm_core.specs.Effects.{Outcome, carried_out}
@@ -6,10 +6,10 @@ use Rattle.arm_ops.specs.Meanings.{operation_meaning}
 use Rattle.ds_map.specs.Guards.{guarded_memory}
 use Rattle.ds_map.specs.Maps.{map_seen}
 use Rattle.ds_map.specs.Views.{NineReach, nine_memory}
-use Rattle.ds_map.specs.Waits.{Waited, nine_wait, waiting, waits_of}
+use Rattle.ds_map.specs.Waits.{Waited, nine_wait, waiting}
 use Rattle.ds_map.proofs.Waiting.{nine_most, waited_so}
 use Rattle.ds_machine.proofs.DecodedOperations.{nine_executes}
-use Rattle.ds_machine.proofs.WaitedSteps.{brief_by, nine_operation, operation_brief}
+use Rattle.ds_machine.proofs.WaitedSteps.{nine_operation, operation_brief}
 use Rattle.ds_machine.proofs.sides.NineViewSide.run.Goals as goal
 
 pub returns-clause-executes : goal.returns-clause-executes

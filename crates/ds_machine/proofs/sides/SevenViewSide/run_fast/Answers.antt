@@ -1,16 +1,14 @@
-use Rattle.std.proofs.Common.{ℕ, ◌≡◌, ◌<◌, ◌≤◌, refl, sym, ◌∙◌, ap, subst}
+use Rattle.std.proofs.Common.{ℕ, sym, ◌∙◌, ap}
 use Rattle.ds_base.specs.declared.processors.Arch.TheVariants.{V4}
 use Rattle.ds_base.specs.declared.processors.Proc.TheVariants.{Seven}
 use Rattle.arm_core.specs.Effects.{Outcome, carried_out}
-use Rattle.arm_core.specs.Steps.{executed_word}
 use Rattle.arm_ops.specs.Meanings.{operation_meaning}
-use Rattle.arm7_exec.specs.Arm7.{arm7}
 use Rattle.ds_map.specs.Maps.{map_seen}
 use Rattle.ds_map.specs.Views.{SevenReach, seven_memory}
 use Rattle.ds_map.specs.Waits.{Waited, seven_wait, waiting, waits_of}
 use Rattle.ds_map.proofs.Waiting.{seven_most, waited_so}
 use Rattle.ds_machine.proofs.DecodedOperations.{seven_executes}
-use Rattle.ds_machine.proofs.WaitedSteps.{brief_by, operation_brief, seven_operation, seven_word, word_brief}
+use Rattle.ds_machine.proofs.WaitedSteps.{brief_by, operation_brief, seven_operation}
 use Rattle.ds_machine.proofs.NearAccesses.{seven_stays}
 use Rattle.ds_machine.proofs.sides.SevenViewSide.run_fast.Goals as goal
 

@@ -74,3 +74,7 @@ pub mod SeenSame
 pub mod Halting
 pub mod Ticks
 pub mod WaitedSteps
+pub mod CardAccesses
+pub mod CardSteps
+pub mod CardValues
+pub mod MadeAccesses

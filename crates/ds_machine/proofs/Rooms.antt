@@ -1,5 +1,4 @@
-use Rattle.std.proofs.Common.{ℕ, ◌≡◌, ◌≤◌, ◌+◌, ◌*◌, nat_lt, if◌then◌else◌, Bool, true, false, true≢false, List, [], ◌∷◌, length, Option, Some, None, IsSome, refl, sym, ◌∙◌, ap, subst, arith}
-use Rattle.std.specs.Prelude.{◌&&◌}
+use Rattle.std.proofs.Common.{ℕ, ◌≡◌, ◌≤◌, ◌+◌, ◌*◌, nat_lt, if◌then◌else◌, Bool, true, false, List, [], ◌∷◌, length, Option, Some, None, refl, sym, ◌∙◌, ap, subst, arith}
 use Rattle.std.proofs.lemmas.Option.{none-some}
 use Rattle.std.proofs.lemmas.Bool.{or_parts}
 use Rattle.ds_base.specs.Accesses.{Access, Fetch, Performed, Read, Write, perform, refused_or}
@@ -10,17 +9,11 @@ use Rattle.ds_base.specs.declared.processors.Arch.TheVariants.{V5}
 use Rattle.ds_base.specs.declared.processors.Proc.{Proc}
 use Rattle.ds_base.specs.declared.processors.Proc.TheVariants.{Nine, Seven}
 use Rattle.ds_base.specs.declared.ticks.Tick.{Tick}
-use Rattle.arm_words.specs.Parts.{condition_of}
 use Rattle.arm_words.specs.declared.instructions.Instr.{Instr}
-use Rattle.arm_words.specs.declared.instructions.Instr.TheVariants.{Coprocessor, Swi, ThumbSwi}
-use Rattle.arm_core.specs.Conditions.{holds}
-use Rattle.arm_core.specs.Effects.{Meaning, carried_out, concluded}
-use Rattle.arm_core.specs.Exceptions.{interrupt_meaning, undefined_meaning}
-use Rattle.arm_core.specs.Meanings.{act, condition, meaning, skipped}
+use Rattle.arm_core.specs.Exceptions.{interrupt_meaning}
+use Rattle.arm_core.specs.Meanings.{meaning}
 use Rattle.arm_core.specs.Registers.{RegisterState}
-use Rattle.arm_core.specs.Steps as steps
-use Rattle.arm_core.specs.Steps.{Setting, enters, executed_word, fetched, stop_of}
-use Rattle.arm_core.specs.Thumb.{equivalent}
+use Rattle.arm_core.specs.Steps.{Setting, enters, executed_word, fetched}
 use Rattle.arm_core.specs.declared.outcomes.Stepped as arm
 use Rattle.arm_core.specs.declared.outcomes.Stepped.TheVariants.{Cost, Halted, Left}
 use Rattle.arm7_exec.specs.Arm7.{arm7}
@@ -40,7 +33,7 @@ use Rattle.ds_map.specs.Maps.{MapState}
 use Rattle.ds_map.specs.Moves.{map_after_unit, next_unit, unit_moved, unit_read, unit_refusal, unit_taken}
 use Rattle.ds_map.specs.Views.{NineReach, SevenReach, nine_memory, seven_memory, tcm_read, tcm_written}
 use Rattle.ds_map.proofs.Guards.{read_leaves, taken_leaves}
-use Rattle.ds_map.proofs.Later.{map_read_unchanged}
+use Rattle.ds_map.proofs.Later.{map_read_leaves}
 use Rattle.ds_ports.specs.Dues.{held_due, io_due}
 use Rattle.ds_ports.specs.Io.{IoState, level_told, settled}
 use Rattle.ds_ports.specs.ProcessorIo.{blocks_processor, processor_io_triggered}
@@ -58,6 +51,7 @@ use Rattle.ds_machine.specs.States.{MachineState}
 use Rattle.ds_machine.specs.Statuses.{left_by}
 use Rattle.ds_machine.specs.Steps.{StepOutcome, ended, goes_on, is_blocked, line_of, machine_concluded, machine_settled, map_of, nine_reach, outcome_of, processor_of, processor_step, seven_reach, tick_of, wakes, with_map, woken_one}
 use Rattle.ds_machine.proofs.FewAccesses.{instructions_are_short}
+use Rattle.ds_machine.proofs.MadeAccesses.{carried_state, move_silent, word_made}
 use Rattle.ds_machine.proofs.Keeps.{Follows, taken_follows, word_follows}
 use Rattle.ds_machine.proofs.RoomWrites.{GrowsByFour, nine_grows, no_growth, seven_stays}
 use Rattle.ds_machine.proofs.Taken.{taken_entered, taken_executed}
@@ -69,7 +63,7 @@ use Rattle.ds_machine.proofs.Taken.{taken_entered, taken_executed}
 tcm_reads : (t : Tcm) (r : NineReach) (at : ℕ) (width : Width) → (tcm_read t r at width).map.io.gx ≡ r.map.io.gx
 tcm_reads (Itcm place) r at width = refl
 tcm_reads (Dtcm place) r at width = refl
-tcm_reads Past r at width = (map_read_unchanged Nine r.map at width).gx
+tcm_reads Past r at width = (map_read_leaves Nine r.now r.map at width).gx
 
 tcm_writes : (t : Tcm) (r : NineReach) (at : ℕ) (width : Width) (value : ℕ) → GrowsByFour r.map.io.gx (tcm_written t r at width value).map.io.gx
 tcm_writes (Itcm place) r at width value = no_growth r.map.io.gx
@@ -140,54 +134,12 @@ either_few : (b : Bool) (accesses : List Access) → length accesses ≤ 16 → 
 either_few true accesses h = none_made
 either_few false accesses h = h
 
-concluded_state : (arch : Arch) (old : RegisterState) (m : Meaning) (done : Performed NineReach) (stop : Option Stop) → (concluded arch old m done stop).state ≡ done.state
-concluded_state arch old m done None = refl
-concluded_state arch old m done (Some stop) = refl
-
-carried_state : (arch : Arch) (old : RegisterState) (r : NineReach) (m : Meaning) → (carried_out nine_memory arch old r m).state ≡ (perform nine_memory r m.accesses).state
-carried_state arch old r m = let done : Performed NineReach = perform nine_memory r m.accesses in concluded_state arch old m done done.stop
-
-silent : (b : Bool) (m k : Meaning) → m.accesses ≡ [] → k.accesses ≡ [] → (if b then m else k).accesses ≡ []
-silent true m k p q = p
-silent false m k p q = q
-
-module _ (arch : Arch) (base : ℕ) (s : RegisterState) where
-  meant_silent : (instr : Instr) → (act arch base s (equivalent instr)).accesses ≡ [] → (meaning arch base s instr).accesses ≡ []
-  meant_silent instr h = silent (holds (condition instr) s.cpsr) (act arch base s (equivalent instr)) (skipped s) h refl
-
-  -- a move to or from a coprocessor makes no access, nor does a SWI
-  move_silent : (instr : Option Instr) → IsSome (move_of instr) → accesses_of arch base s instr ≡ []
-  move_silent None h = refl
-  move_silent (Some (Coprocessor cond load op1 crn rd cp op2 crm)) h = meant_silent (Coprocessor cond load op1 crn rd cp op2 crm) refl
-  move_silent (Some _) h = absurd (true≢false (sym h))
-
-no_stop : (b : Bool) → IsSome (let none : Option Stop = None in if b then none else none) → ⊥
-no_stop true h = true≢false (sym h)
-no_stop false h = true≢false (sym h)
-
-stop_silent : (setting : Setting) (s : RegisterState) (instr : Instr) → IsSome (stop_of setting s instr) → (meaning setting.arch setting.base s instr).accesses ≡ []
-stop_silent setting s (Swi cond immed) h = meant_silent setting.arch setting.base s (Swi cond immed) refl
-stop_silent setting s (ThumbSwi immed) h = meant_silent setting.arch setting.base s (ThumbSwi immed) refl
-stop_silent setting s instr h = absurd (no_stop (setting.in_rom && holds (condition instr) s.cpsr) h)
-
 module _ (s : RegisterState) (r : NineReach) where
   abbrev setting : Setting
   setting = arm9 r.cp15
 
   abbrev state_after : List Access → NineReach
   state_after accesses = (perform nine_memory r accesses).state
-
-  unless_made : (instr : Instr) (stop : Option Stop) → (IsSome stop → (meaning V5 setting.base s instr).accesses ≡ [])
-      → (steps.executed_unless nine_memory setting s r instr stop).state ≡ state_after (meaning V5 setting.base s instr).accesses
-  unless_made instr None h = carried_state V5 s r (meaning V5 setting.base s instr)
-  unless_made instr (Some stop) h = sym (ap state_after (h refl))
-
-  word_made : (number : ℕ) (instr : Option Instr) → (executed_word nine_memory setting s r number instr).state ≡ state_after (accesses_of V5 setting.base s instr)
-  word_made number None =
-      let b = holds (condition_of number) s.cpsr in
-      carried_state V5 s r (if b then undefined_meaning setting.base s else skipped s)
-      ∙ ap state_after (silent b (undefined_meaning setting.base s) (skipped s) refl refl)
-  word_made number (Some instr) = unless_made instr (stop_of setting s instr) (stop_silent setting s instr)
 
   -- what is left is what they leave, but for CP15
   abbrev IsMade : NineReach → List Access → Type 0
@@ -199,18 +151,19 @@ module _ (s : RegisterState) (r : NineReach) where
   executed_made : (number : ℕ) (instr : Option Instr) (move : Option Moved) → move_of instr ≡ move
       → IsMade (nine_executed s r number instr move).state (accesses_of V5 setting.base s instr)
   executed_made number instr None is =
-      beside_cp15 (executed_word nine_memory setting s r number instr).state (state_after (accesses_of V5 setting.base s instr)) (word_made number instr)
+      beside_cp15 (executed_word nine_memory setting s r number instr).state (state_after (accesses_of V5 setting.base s instr))
+      (word_made nine_memory setting s r number instr)
   executed_made number instr (Some move) is =
       let left : NineReach = (nine_executed s r number instr (Some move)).state in
       let none : accesses_of V5 setting.base s instr ≡ [] = move_silent V5 setting.base s instr (rw is refl) in
       ap (λ (x : NineReach). (let t : NineReach = record x { cp15 = left.cp15 } in t)) (sym (ap state_after none))
 
-  step_made : (line : Bool) → IsMade (side_taken nine_memory nine_side line s r).state (step_accesses nine_memory nine_side line s r)
+  pub step_made : (line : Bool) → IsMade (side_taken nine_memory nine_side line s r).state (step_accesses nine_memory nine_side line s r)
   step_made line = by_entry (enters line s) refl where
     by_entry : (b : Bool) → enters line s ≡ b
         → IsMade (side_taken nine_memory nine_side line s r).state (if b then [] else accesses_of V5 setting.base s (fetched nine_memory V5 s r).instr)
     by_entry true e =
-        rw (taken_entered nine_memory nine_side line s r e) (beside_cp15 _ r (carried_state V5 s r (interrupt_meaning setting.base s)))
+        rw (taken_entered nine_memory nine_side line s r e) (beside_cp15 _ r (carried_state nine_memory V5 s r (interrupt_meaning setting.base s)))
     by_entry false e =
         let f = fetched nine_memory V5 s r in
         rw (taken_executed nine_memory nine_side line s r f.number f.instr e refl refl) (executed_made f.number f.instr (move_of f.instr) refl)
@@ -305,7 +258,7 @@ unit_grows None now unit m w =
     let many : waiting_entries (unit_taken Nine now unit m).io.gx ≡ waiting_entries m.io.gx = ap waiting_entries e in
     omega (arith, g.entries (subst AreWaiting (sym e) w), many)
 unit_grows (Some stop) now unit m w =
-    let many : waiting_entries (unit_read Nine unit m).io.gx ≡ waiting_entries m.io.gx = ap waiting_entries (read_leaves Nine unit m) in omega (arith, many)
+    let many : waiting_entries (unit_read Nine now unit m).io.gx ≡ waiting_entries m.io.gx = ap waiting_entries (read_leaves Nine now unit m) in omega (arith, many)
 
 unit_finds_room : (now : Tick) (unit : DmaUnit) (m : MapState) → AreWaiting m.io.gx → is_stalled m.io.gx ≡ false → UnitFindsRoom now unit m
 unit_finds_room now unit m w free =
@@ -350,7 +303,7 @@ seven_follows = record {
   joins = λ r t u one two. two ∙ one;
   ends = λ r t one. tt;
   fetches = λ r at width i. refl;
-  reads = λ r at width i. (map_read_unchanged Seven r.map at width).gx;
+  reads = λ r at width i. (map_read_leaves Seven r.now r.map at width).gx;
   writes = λ r at width value i. seven_stays r.now r.map at width value;
 }
 
@@ -368,7 +321,7 @@ seven_steps_leave_geometry rank s is =
 seven_unit : (stop : Option Stop) (now : Tick) (unit : DmaUnit) (m : MapState) → (map_after_unit stop Seven now unit m).io.gx ≡ m.io.gx
 seven_unit None now unit m =
     seven_stays now (unit_taken Seven now unit m) unit.to unit.width (map_value Seven now m unit.from unit.width) ∙ taken_leaves Seven now unit m
-seven_unit (Some stop) now unit m = read_leaves Seven unit m
+seven_unit (Some stop) now unit m = read_leaves Seven now unit m
 
 seven_channel : (rank : ℕ) (due : Option Tick) (s : MachineState) → gx_of (left_by (channel_came rank Seven due s)) ≡ s.io.gx
 seven_channel rank None s = refl

@@ -31,3 +31,4 @@ pub mod Hearing
 pub mod DecodedSteps
 pub mod PrivateSides
 pub mod Halting
+pub mod CardSteps

@@ -1,6 +1,7 @@
 //! The laws of the reference run.
 
 ghost use Rattle.ds_runs.specs.Laws.{RunsJoin, RunsAreOne, RunsExist, RunsEnd};
+ghost use Rattle.ds_machine.specs.CardSteps.{LoadsGiveWords, MachineTakesInOrder, ReadsGiveWords, RunsTakeCardSteps, StepsPassCard};
 ghost use Rattle.ds_machine.specs.Frames.{FramesAreFew, StepsFollowFrames, StepsFollowLists, StopsLeaveFrames, StopsLeaveLists};
 ghost use Rattle.ds_machine.specs.Halting.{BootsKeepNoMore, RunsKeepNoMore};
 ghost use Rattle.ds_machine.specs.Lagging.{CatchingUpRuns, LagRuns, LagStops};
@@ -116,4 +117,17 @@ pub fn acting_laws()
     ensures may { ActingMayStep }
     ensures runs { ActingRuns }
     ensures stops { ActingStops }
+{}
+
+/// Does nothing; its contract states the law of the card's transfers on the machine. A step of any actor, taken or not, does to the card what the
+/// card's own law says, and takes the words that its instruction's accesses read of the card's data, or its DMA unit (`steps`). So the words that
+/// steps take from a transfer's start on are first the words of that transfer, in order: all of them where it has ended, and what is taken after
+/// that is no more of it (`order`); a run that isn't stopped is such steps (`runs`). A word that is taken is the value that its read gets, so that a
+/// DMA unit moves it (`values`), and a processor loads it (`loads`).
+pub fn card_laws()
+    ensures steps { StepsPassCard }
+    ensures order { MachineTakesInOrder }
+    ensures runs { RunsTakeCardSteps }
+    ensures values { ReadsGiveWords }
+    ensures loads { LoadsGiveWords }
 {}

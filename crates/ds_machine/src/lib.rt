@@ -59,6 +59,8 @@
 //! - `frame_laws`: a frame or lists that a step puts out are the machine's last ones after it, and no other step changes them.
 //! - `room_laws`: an instruction makes sixteen accesses of data at most; where no stall holds ARM9 each access finds at most 320 entries
 //!   waiting for geometry, and at most 324 wait after it: so the code's bus, which would ignore a write for want of room, is the reference's.
+//! - `card_laws`: each step of any actor, taken or not, passes the card as the card's own law says, with the words that its accesses or its
+//!   DMA unit read; so from a transfer's start on these are the transfer's words, in order (`specs/CardSteps.antt`).
 //! - `stop_laws`: no step of any actor, in any state, stops for want of what isn't built yet.
 //! - `Machine::laws`: what holds of every machine; units and script are sound, neither FIFO holds more than 16 words, kept status bits,
 //!   geometry within its sizes.

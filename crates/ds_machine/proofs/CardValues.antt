@@ -1,0 +1,87 @@
+use Rattle.std.proofs.Common.{ℕ, ◌≡◌, ◌≤◌, ◌+◌, ◌*◌, ◌%◌, ◌^◌, nat_le, Bool, true, false, Option, Some, None, refl, ◌∙◌, ap, arith}
+use Rattle.std.specs.Prelude.{IfSome}
+use Rattle.std.proofs.lemmas.Option.{none-some}
+use Rattle.ds_base.proofs.Choices.{le_of}
+use Rattle.ds_base.specs.Numbers.{aligned_down, value_by, width_bytes}
+use Rattle.ds_base.specs.declared.memories.Width.{Width}
+use Rattle.ds_base.specs.declared.memories.Width.TheVariants.{Byte, Half, Word}
+use Rattle.ds_base.specs.declared.processors.Proc.{Proc}
+use Rattle.ds_base.specs.declared.processors.Proc.TheVariants.{Nine, Seven}
+use Rattle.ds_base.specs.declared.ticks.Tick.{Tick}
+use Rattle.ds_card.specs.CardPorts.{data_port_at}
+use Rattle.ds_card.specs.Cards.{card_byte, value_or}
+use Rattle.cp15_tcm.specs.TightlyCoupled.{tcm_of}
+use Rattle.cp15_tcm.specs.declared.answers.Tcm.{Tcm}
+use Rattle.cp15_tcm.specs.declared.answers.Tcm.TheVariants.{Itcm, Dtcm, Past}
+use Rattle.ds_map.specs.Accesses.{map_value, value_at}
+use Rattle.ds_map.specs.Maps.{MapState}
+use Rattle.ds_map.specs.Views.{NineReach, tcm_value}
+use Rattle.ds_places.specs.AddressTables.{place_of}
+use Rattle.ds_places.specs.declared.kinds.Place.{Place}
+use Rattle.ds_places.specs.declared.kinds.Place.TheVariants as place
+use Rattle.ds_ports.specs.Io.{IoState}
+use Rattle.ds_ports.specs.Ports.{part, port_half, port_value, read_or, whole_if, whole_in}
+use Rattle.ds_ports.specs.RegisterMap.{IsSlot, slot_of}
+use Rattle.ds_ports.specs.Registers.{meaning_of}
+use Rattle.ds_ports.specs.declared.registers.Register.{Register}
+use Rattle.ds_ports.specs.declared.registers.Register.TheVariants.{CardData}
+use Rattle.ds_ports.specs.declared.registers.Slot.{Slot}
+use Rattle.ds_ports.proofs.RegisterMaps.{some_slot}
+use Rattle.ds_machine.specs.CardSteps.{LoadsGiveWords, ReadsGiveWords, map_word, place_word, register_word, slot_word, tcm_word}
+
+-- A word of the card's that a read takes is the value that it gets.
+
+module _ (proc : Proc) (now : Tick) (u : IoState) (word : ℕ) where
+  register_gives : (register : Register) (number : ℕ) → register_word proc u.card register ≡ Some word
+      → (meaning_of register).value proc now u number ≡ word
+  register_gives CardData number h = ap (λ (o : Option ℕ). value_or o (value_by Word (card_byte u.card proc) (aligned_down Word data_port_at))) h
+  register_gives register number h = absurd (none-some word h)
+
+  whole_number : (n : ℕ) → part Word 0 n ≡ n % 2 ^ 32
+  whole_number n = omega arith
+
+  -- a register that has all bytes of a word has no others, so all of it is read
+  first_byte : (byte bytes : ℕ) → byte + width_bytes Word ≤ bytes → bytes ≤ 4 → byte ≡ 0
+  first_byte byte bytes h k = omega (arith, h, k)
+
+  whole_gives : (b : Bool) (slot : Slot) (other : ℕ) → nat_le (slot.byte + width_bytes Word) slot.bytes ≡ b → IsSlot slot
+      → slot_word proc u.card (whole_if b slot) ≡ Some word → read_or proc now u Word (whole_if b slot) other ≡ word % 2 ^ 32
+  whole_gives true slot other e is h =
+      let value = (meaning_of slot.register).value proc now u slot.number in
+      ap (λ (n : ℕ). part Word n value) (first_byte slot.byte slot.bytes (le_of (slot.byte + width_bytes Word) slot.bytes e) is.bytes)
+      ∙ ap (part Word 0) (register_gives slot.register slot.number h) ∙ whole_number word
+  whole_gives false slot other e is h = absurd (none-some word h)
+
+  slot_gives : (slot : Option Slot) (other : ℕ) → IfSome slot IsSlot → slot_word proc u.card (whole_in Word slot) ≡ Some word
+      → read_or proc now u Word (whole_in Word slot) other ≡ word % 2 ^ 32
+  slot_gives None other is h = absurd (none-some word h)
+  slot_gives (Some slot) other is h = whole_gives (nat_le (slot.byte + width_bytes Word) slot.bytes) slot other refl is h
+
+place_gives : (proc : Proc) (now : Tick) (where_ : Place) (m : MapState) (width : Width) (word : ℕ) → place_word proc where_ m width ≡ Some word
+    → value_at proc now where_ m width ≡ word % 2 ^ 32
+unfolding port_value
+place_gives proc now (place.Port at) m Word word h =
+    let down = aligned_down Word at in
+    slot_gives proc now m.io word (slot_of proc down)
+    (port_half proc now m.io down + 2 ^ 16 * port_half proc now m.io (down + 2)) (some_slot proc down) h
+place_gives proc now (place.Port at) m Byte word h = absurd (none-some word h)
+place_gives proc now (place.Port at) m Half word h = absurd (none-some word h)
+place_gives proc now (place.Cell memory at) m width word h = absurd (none-some word h)
+place_gives proc now (place.Banks space at) m width word h = absurd (none-some word h)
+place_gives proc now (place.Rom at) m width word h = absurd (none-some word h)
+place_gives proc now place.Nothing m width word h = absurd (none-some word h)
+
+pub reads_give_words : ReadsGiveWords
+unfolding map_value map_word
+reads_give_words proc now m at word width h = place_gives proc now (place_of proc m.io.wramcnt at) m width word h
+
+tcm_gives : (t : Tcm) (r : NineReach) (at word : ℕ) (width : Width) → tcm_word t r at width ≡ Some word → tcm_value t r at width ≡ word % 2 ^ 32
+tcm_gives (Itcm place) r at word width h = absurd (none-some word h)
+tcm_gives (Dtcm place) r at word width h = absurd (none-some word h)
+tcm_gives Past r at word width h = reads_give_words Nine r.now r.map at word width h
+
+pub loads_give_words : LoadsGiveWords
+loads_give_words = record {
+  nine = λ r at word width h. tcm_gives (tcm_of r.cp15 at false false) r at word width h;
+  seven = λ r at word width h. reads_give_words Seven r.now r.map at word width h;
+}

@@ -1,5 +1,6 @@
 //! Each rule of the ports on worked rows, from GBATEK.
 
+mod card;
 mod controls;
 mod display;
 mod dma;

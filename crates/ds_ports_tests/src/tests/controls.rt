@@ -1,8 +1,7 @@
-//! Memory control and ROMCTRL.
+//! Memory control.
 
-use crate::tests::lines::Line::{Boot, Reads, Refused, Vram, Wramcnt, Write, WriteVram};
+use crate::tests::lines::Line::{Boot, Reads, Vram, Wramcnt, Write, WriteVram};
 use crate::tests::lines::try_lines;
-use ds_base::LeftKind::CardTransfer;
 use ds_base::Proc::{Nine, Seven};
 use ds_base::Space::Lcdc;
 use ds_base::Width::{Byte, Half, Word};
@@ -59,42 +58,4 @@ fn a_wide_write_goes_through_its_registers(rt: HostRuntime) -> Result<(), AllocE
             Reads(Nine, 0x300, Byte, 1),
         ],
     )
-}
-
-#[test]
-fn romctrl_is_one_register_for_both(rt: HostRuntime) -> Result<(), AllocError> {
-    try_lines(
-        &rt,
-        rt.alloc(),
-        &[
-            // bits 0 to 22 and 24 to 30 are kept
-            Write(Nine, 0x1A4, Word, 0x7FFF_FFFF),
-            Reads(Nine, 0x1A4, Word, 0x7F7F_FFFF),
-            Reads(Seven, 0x1A4, Word, 0x7F7F_FFFF),
-            Write(Seven, 0x1A6, Half, 0x1280),
-            Reads(Nine, 0x1A4, Word, 0x1200_FFFF),
-            Write(Nine, 0x1A4, Byte, 0x34),
-            Reads(Seven, 0x1A4, Half, 0xFF34),
-        ],
-    )
-}
-
-#[test]
-fn a_card_transfer_is_refused_with_the_whole_word(rt: HostRuntime) -> Result<(), AllocError> {
-    for proc in [Nine, Seven] {
-        try_lines(
-            &rt,
-            rt.alloc(),
-            &[
-                Write(Nine, 0x1A4, Word, 0x0123_4567),
-                Refused(proc, 0x1A4, Word, 0x8765_4321, CardTransfer, 0x8765_4321),
-                Reads(proc, 0x1A4, Word, 0x0123_4567),
-                Refused(proc, 0x1A6, Half, 0xFF80, CardTransfer, 0xFF80_4567),
-                Reads(proc, 0x1A4, Word, 0x0123_4567),
-                Refused(proc, 0x1A7, Byte, 0x80, CardTransfer, 0x8023_4567),
-                Reads(proc, 0x1A4, Word, 0x0123_4567),
-            ],
-        )?;
-    }
-    Ok(())
 }

@@ -66,6 +66,12 @@ pub enum Line {
     Divides,
     /// The running square root is done.
     Roots,
+    /// The cartridge's file has these words from 8000h on, and zeros before them.
+    File(u32, u32),
+    /// When the card is due.
+    CardDue(u64),
+    /// The card's event, when it is due: a word is ready, or a block without words ends.
+    Gives,
     /// The units settle after a step.
     Settles,
     /// Whether they are settled.
@@ -114,12 +120,13 @@ const FIRST_BLANK: Seen = (3212, 1, 0);
 /// What is shown where what a line asks can't be done.
 const NOTHING: Seen = (NEVER, NEVER, NEVER);
 
-/// The units of a table, the tick of its lines, and the last channel's move.
+/// The units of a table, the tick of its lines, the last channel's move, and the cartridge's file.
 #[derive(Drop)]
 struct Bench {
     io: Io,
     now: u32,
     before: Option<Before>,
+    file: Vec<u8>,
 }
 
 /// What a refusal tells: a number for each kind that ports have, and its value.
@@ -143,6 +150,14 @@ fn tick_of(due: Option<Tick>) -> Seen {
 /// A due tick and its rank.
 fn seen_due(due: Due) -> Seen {
     (due.tick.0, due.rank.into(), 0)
+}
+
+/// A file of these words from 8000h on.
+fn file_of(alloc: Global, first: u32, second: u32) -> Result<Vec<u8>, AllocError> {
+    let mut file = vec![in alloc; 0u8; 0x8000]?;
+    file.extend_from_slice(&first.to_le_bytes())?;
+    file.extend_from_slice(&second.to_le_bytes())?;
+    Ok(file)
 }
 
 /// An actor that numbers name, as its tick.
@@ -204,7 +219,7 @@ impl Bench {
     {
         match self.io.io_due(actor) {
             Some(due) if due.0 <= 1 << 56 && self.io.gx().run_length() <= 1 << 56 => {
-                self.io.event(actor);
+                self.io.event(actor, self.file.as_slice());
                 DONE
             }
             _ => NOTHING,
@@ -315,6 +330,8 @@ impl Bench {
             }
             Line::DivisionDue(tick) => { (tick_of(self.io.io_due(Actor::Divider)), (tick, 0, 0)) }
             Line::RootDue(tick) => { (tick_of(self.io.io_due(Actor::SquareRoot)), (tick, 0, 0)) }
+            Line::CardDue(tick) => (tick_of(self.io.io_due(Actor::Card)), (tick, 0, 0)),
+            Line::Gives => (self.event(Actor::Card), DONE),
             Line::First(tick, rank) => (self.first(), (tick, rank.into(), 0)),
             Line::NoneDue => (self.first(), FIRST_BLANK),
             Line::Shows(events) => (self.show_all(events), DONE),
@@ -338,7 +355,10 @@ impl Bench {
     fn change(&mut self, line: Line) {
         match line {
             Line::At(now) => self.now = now,
-            Line::Read(proc, at, width) => self.io.read(proc, at % 0x100_0000, width),
+            Line::Read(proc, at, width) => {
+                self.io
+                    .read(proc, Tick(self.now.into()), at % 0x100_0000, width)
+            }
             Line::Press(keys) => self.io.press(keys % 0x1000),
             Line::Halt(proc) => self.io.set_halted(proc, true),
             Line::Wake(proc) => self.io.set_halted(proc, false),
@@ -393,10 +413,12 @@ impl Bench {
         }
     }
 
-    /// The same of every line, also of one that boots.
+    /// The same of every line, also of one that boots, or that makes the file.
     fn step(&mut self, alloc: Global, line: Line) -> Result<(Seen, Seen), AllocError> {
-        if let Line::Boot = line {
-            self.io = Io::new(alloc)?;
+        match line {
+            Line::Boot => self.io = Io::new(alloc)?,
+            Line::File(first, second) => self.file = file_of(alloc, first, second)?,
+            _ => {}
         }
         Ok(self.seen(line))
     }
@@ -408,6 +430,7 @@ pub fn try_lines(rt: &impl Abort, alloc: Global, lines: &[Line]) -> Result<(), A
         io: Io::new(alloc)?,
         now: 0,
         before: None,
+        file: Vec::new(alloc),
     };
     bench.io.laws();
     for (number, line) in lines.iter().enumerate() {

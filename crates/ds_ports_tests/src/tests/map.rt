@@ -2,10 +2,10 @@
 
 use Proc::{Nine, Seven};
 use Register::{
-    DisplayHalf, DisplayWord, DivDenom, DivNumer, DivResult, Divcnt, DivremResult, Dmacnt, Dmadad,
-    Dmafill, Dmasad, Extkeyin, GxCommand, GxWord, Haltcnt, Ie, If, Ime, Ipcfifocnt, Ipcfiforecv,
-    Ipcfifosend, Ipcsync, Keycnt, Keyinput, Postflg, Romctrl, SqrtParam, SqrtResult, Sqrtcnt,
-    TmcntH, TmcntL, Vramcnt, Vramstat, Wramcnt, Wramstat,
+    Auxspicnt, CardData, CardWord, DisplayHalf, DisplayWord, DivDenom, DivNumer, DivResult, Divcnt,
+    DivremResult, Dmacnt, Dmadad, Dmafill, Dmasad, Extkeyin, GxCommand, GxWord, Haltcnt, Ie, If,
+    Ime, Ipcfifocnt, Ipcfiforecv, Ipcfifosend, Ipcsync, Keycnt, Keyinput, Postflg, SqrtParam,
+    SqrtResult, Sqrtcnt, TmcntH, TmcntL, Vramcnt, Vramstat, Wramcnt, Wramstat,
 };
 use ds_base::Proc;
 use ds_ports::{Register, slot_of};
@@ -107,10 +107,21 @@ fn each_control_stands_where_the_list_has_it(rt: HostRuntime) {
             No(Nine, 0x110),
             No(Seven, 0x0FF),
             Slot(Seven, 0x106, TmcntH, 1),
-            No(Nine, 0x1A3),
-            Slot(Nine, 0x1A4, Romctrl, 0),
-            Slot(Seven, 0x1A7, Romctrl, 0),
-            No(Seven, 0x1A8),
+            No(Nine, 0x19F),
+            Slot(Nine, 0x1A0, Auxspicnt, 0x1A0),
+            Slot(Seven, 0x1A1, Auxspicnt, 0x1A0),
+            No(Nine, 0x1A2),
+            No(Seven, 0x1A3),
+            Slot(Nine, 0x1A4, CardWord, 0x1A4),
+            Slot(Seven, 0x1A7, CardWord, 0x1A4),
+            Slot(Seven, 0x1A8, CardWord, 0x1A8),
+            Slot(Nine, 0x1AC, CardWord, 0x1AC),
+            Slot(Nine, 0x1AF, CardWord, 0x1AC),
+            No(Seven, 0x1B0),
+            No(Nine, 0x10_000F),
+            Slot(Nine, 0x10_0010, CardData, 0),
+            Slot(Seven, 0x10_0013, CardData, 0),
+            No(Nine, 0x10_0014),
             Slot(Nine, 0x283, Divcnt, 0),
             No(Nine, 0x284),
             Slot(Nine, 0x290, DivNumer, 0),

@@ -11,6 +11,8 @@ from nds_tools.words import Refused, Untold, bytes_of
 # Numbers of folders begin here; those of files are below.
 FOLDERS = 0xF000
 MOST_FILES, MOST_FOLDERS = FOLDERS, 0x1000
+# The card gives no byte below this place (GBATEK, "DS Cartridge Protocol"): what a program reads while it runs stands behind it.
+FIRST_READ = 0x8000
 # A name of a file or folder: ASCII, but for what ndstool and others don't take.
 NAME = re.compile(r'[ -~]{1,127}')
 NOT_IN_NAMES = set('\\/?"<>*:;|')
@@ -138,8 +140,10 @@ def padded(whole: bytearray, step: int) -> int:
 
 
 def add(whole: bytearray, words: List[str], step: int) -> None:
-    """Puts the tables behind a cartridge's images, then the files, each at a multiple of `step`, and tells the header where the tables are."""
+    """Puts the tables behind a cartridge's images, then the files, each at a multiple of `step`, where the card gives them, and tells the header
+    where the tables are."""
     found = rows(tree(words))
+    whole += bytes(max(0, FIRST_READ - len(whole)))
     names, files = names_table(found), contents(found)
     names_at = padded(whole, step)
     whole += names

@@ -15,13 +15,14 @@ from made import TOOLS, TOP, Room, picture, stop
 
 class Examples(Built):
     def test_the_games_tests_pass(self):
-        said = self.tool("nds-test", *(f"{TOP}/examples/{it}/tests" for it in ("c-game", "scene", "startup", "bitmap")))
+        said = self.tool("nds-test", *(f"{TOP}/examples/{it}/tests" for it in ("c-game", "scene", "startup", "bitmap", "nitro")))
         self.assertRegex(said, r"\n(\d+) tests: \1 PASS\n$")
 
     @unittest.skipUnless(has_compiler(), f"clang and lld {CLANG} and make aren't here")
     def test_a_build_gives_what_is_committed(self):
         for name, files in (("c-game", ("c-game.nds", "game.elf", "seven.elf")), ("scene", ("scene.nds", "scene.elf")),
-                            ("startup", ("startup.nds", "nine.elf", "seven.elf")), ("bitmap", ("bitmap.nds", "bitmap.elf"))):  # fmt: skip
+                            ("startup", ("startup.nds", "nine.elf", "seven.elf")), ("bitmap", ("bitmap.nds", "bitmap.elf")),
+                            ("nitro", ("nitro.nds", "nitro.elf"))):  # fmt: skip
             self.copied(name)
             for file in files:
                 pair = []

@@ -152,10 +152,10 @@ class MakeCart(Room):
         # three folders, F000h the root, F001h d, F002h e: where each list begins, its first file, its parent (for the root how many there are)
         head = struct.pack("<I2HI2HI2H", 24, 0, 3, 35, 1, 0xF000, 42, 2, 0xF001)
         lists = b"\x05a.txt\x81d\x01\xf0\0" + b"\x01b\x81e\x02\xf0\0" + b"\x01c\0"
-        self.assertEqual(struct.unpack_from("<4I", whole, 0x40), (0x600, 45, 0x800, 24))
-        self.assertEqual(whole[0x600 : 0x600 + 45], head + lists)
-        self.assertEqual(struct.unpack_from("<6I", whole, 0x800), (0xA00, 0xA03, 0xC00, 0xC05, 0xE00, 0xE00 + 600))
-        self.assertEqual((whole[0xA00:0xA03], whole[0xC00:0xC05], whole[0xE00:]), (b"one", b"seven", bytes(600)))
+        self.assertEqual(struct.unpack_from("<4I", whole, 0x40), (0x8000, 45, 0x8200, 24))
+        self.assertEqual(whole[0x8000 : 0x8000 + 45], head + lists)
+        self.assertEqual(struct.unpack_from("<6I", whole, 0x8200), (0x8400, 0x8403, 0x8600, 0x8605, 0x8800, 0x8800 + 600))
+        self.assertEqual((whole[0x8400:0x8403], whole[0x8600:0x8605], whole[0x8800:]), (b"one", b"seven", bytes(600)))
 
     def test_a_file_has_its_own_name_or_another_and_a_cartridge_without_files_no_tables(self):
         code, level = self.put("code.bin", BRANCH), self.put("level.bin", b"x")

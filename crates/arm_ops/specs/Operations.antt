@@ -83,8 +83,8 @@ abbrev pub data_shifted : Instr → DataOp → Bool → ℕ → ℕ → ShiftedR
 data_shifted instr op false rd rn by = DataShifted op rd rn by
 data_shifted instr op true rd rn by = Plain instr
 
-abbrev pub data_by_register : Instr → DataOp → Bool → ℕ → ℕ → ℕ → Shift → ℕ → Op
-data_by_register instr op set_flags rd rn rm shift amount =
+abbrev pub data_plain_or_shifted : Instr → DataOp → Bool → ℕ → ℕ → ℕ → Shift → ℕ → Op
+data_plain_or_shifted instr op set_flags rd rn rm shift amount =
     if is_plain shift amount then data_register instr op set_flags rd rn rm
     else data_shifted instr op set_flags rd rn (shifted_register rm shift amount)
 
@@ -98,7 +98,7 @@ abbrev pub data_op : Instr → DataOp → Bool → ℕ → ℕ → Operand → O
 data_op instr op set_flags rd rn (Immediate rotate immed) =
     if rd == 15 || rn == 15 then Plain instr else data_number instr op set_flags rd rn (rotated_number rotate immed).value
 data_op instr op set_flags rd rn (Shifted rm shift amount) =
-    if (rd == 15 || rn == 15) || rm == 15 then Plain instr else data_by_register instr op set_flags rd rn rm shift amount
+    if (rd == 15 || rn == 15) || rm == 15 then Plain instr else data_plain_or_shifted instr op set_flags rd rn rm shift amount
 data_op instr op set_flags rd rn (ShiftedByRegister rm shift rs) =
     if ((rd == 15 || rn == 15) || rm == 15) || rs == 15 then Plain instr else data_by_shift instr op set_flags rd rn rm shift rs
 

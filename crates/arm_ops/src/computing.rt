@@ -2,7 +2,8 @@
 
 ghost use Rattle.std.specs.Prelude.{◌≡◌, ◌<◌, [], false, true};
 ghost use Rattle.arm_words.specs.declared.parts.Operand.TheVariants.{ShiftedByRegister};
-ghost use Rattle.arm_core.specs.DataProcessing.{data_meaning, result_put};
+ghost use Rattle.arm_core.specs.Conditions.{c_flag, v_flag};
+ghost use Rattle.arm_core.specs.DataProcessing.{data_meaning, data_result, result_put};
 ghost use Rattle.arm_core.specs.Effects.{cost_of};
 ghost use Rattle.arm_core.specs.Registers.{next};
 ghost use Rattle.arm_ops.specs.Meanings as ops;
@@ -11,7 +12,7 @@ ghost use Rattle.arm_ops.specs.Operations.{shifted_register, AreAllLow};
 use crate::operands::{LowShifted, SecondOperand};
 use crate::operations::{Number, ShiftedRegister};
 use arm_core::{
-    Class, Computed, Registers, compare_result, data_result, first_operand, move_result,
+    Class, Computed, Registers, Shifted32, compare_result, data_result, first_operand, move_result,
     shifter_operand,
 };
 use arm_words::{CompareOp, DataOp, MoveOp, Operand, Shift};
@@ -51,6 +52,17 @@ fn finish(s: &mut Registers, set_flags: bool, rd: u8, r: Computed)
     s.set_low(rd, r.value);
 }
 
+/// Data processing of two operands, with a register below r15 for its result.
+#[inline(always)]
+fn put_data(s: &mut Registers, op: DataOp, set_flags: bool, rd: u8, first: u32, second: Shifted32)
+    requires { rd < 15 }
+    ensures { s.new ≡ result_put set_flags rd (data_result op first second (c_flag s.old.cpsr) (v_flag s.old.cpsr)) (next s.old) }
+{
+    let c = (s.cpsr() >> 29) & 1 == 1;
+    let v = (s.cpsr() >> 28) & 1 == 1;
+    finish(s, set_flags, rd, data_result(op, first, second, c, v));
+}
+
 /// Data processing by its second operand; the result is its cost.
 #[inline(always)]
 pub(crate) fn data_by<O: SecondOperand>(
@@ -68,16 +80,14 @@ pub(crate) fn data_by<O: SecondOperand>(
     ensures registers { s.new ≡ (ops.data_by s.old op set_flags rd rn (O.found second s.old)).after [] }
     ensures cost { result ≡ cost_of arch (ops.data_by s.old op set_flags rd rn (O.found second s.old)) }
 {
-    let c = (s.cpsr() >> 29) & 1 == 1;
-    let v = (s.cpsr() >> 28) & 1 == 1;
-    let r = data_result(op, s.low(rn), second.operand(s), c, v);
-    finish(s, set_flags, rd, r);
+    let (first, second) = (s.low(rn), second.operand(s));
+    put_data(s, op, set_flags, rd, first, second);
     Class::Processing.cost(arch, false)
 }
 
 /// Data processing with a register that another shifts, which leaves the flags; the result is its cost.
 #[inline(always)]
-pub(crate) fn data_by_register(
+pub(crate) fn data_shifted_by(
     arch: Arch,
     s: &mut Registers,
     op: DataOp,
@@ -92,11 +102,9 @@ pub(crate) fn data_by_register(
     ensures registers { s.new ≡ (data_meaning s.old op false rn rd (ShiftedByRegister rm shift rs)).after [] }
     ensures cost { result ≡ cost_of arch (data_meaning s.old op false rn rd (ShiftedByRegister rm shift rs)) }
 {
-    let c = (s.cpsr() >> 29) & 1 == 1;
-    let v = (s.cpsr() >> 28) & 1 == 1;
     let by = Operand::ShiftedByRegister { rm, shift, rs };
-    let r = data_result(op, first_operand(s, by, rn), shifter_operand(s, by), c, v);
-    finish(s, false, rd, r);
+    let (first, second) = (first_operand(s, by, rn), shifter_operand(s, by));
+    put_data(s, op, false, rd, first, second);
     Class::ShiftByRegister.cost(arch, false)
 }
 

@@ -74,7 +74,7 @@ fn data_register(instr: Instr, op: DataOp, set_flags: bool, rd: u8, rn: u8, rm: 
 }
 
 /// The same with a register that an amount shifts, or that is as it is.
-fn data_by_register(
+fn data_plain_or_shifted(
     instr: Instr,
     op: DataOp,
     set_flags: bool,
@@ -82,7 +82,7 @@ fn data_by_register(
     rn: u8,
     by: ShiftedRegister,
 ) -> Op
-    ensures { result ≡ ops.data_by_register instr op set_flags rd rn by.rm by.shift by.amount }
+    ensures { result ≡ ops.data_plain_or_shifted instr op set_flags rd rn by.rm by.shift by.amount }
 {
     if is_plain(by.shift, by.amount) {
         return data_register(instr, op, set_flags, rd, rn, by.rm);
@@ -143,7 +143,7 @@ fn data_op(instr: Instr, op: DataOp, set_flags: bool, rd: u8, rn: u8, operand: O
                 return Op::Plain(instr);
             }
             let by = ShiftedRegister { rm, shift, amount };
-            data_by_register(instr, op, set_flags, rd, rn, by)
+            data_plain_or_shifted(instr, op, set_flags, rd, rn, by)
         }
         Operand::ShiftedByRegister { rm, shift, rs } => {
             if rd == 15 || rn == 15 || rm == 15 || rs == 15 {

@@ -12,7 +12,7 @@ ghost use Rattle.arm_ops.specs.Inside.{IsPaid};
 ghost use Rattle.arm_ops.specs.Operations.{is_other, loads, HasAccess, HasOp, HasOperation};
 
 use crate::accesses::access_of;
-use crate::computing::{compare_by, data_by, data_by_register, kept, move_by, shifted};
+use crate::computing::{compare_by, data_by, data_shifted_by, kept, move_by, shifted};
 use crate::operands::{LowRegister, LowShifted};
 use crate::operations::{DataAccess, Op, Operation, TransferOp};
 use arm_core::{Bus, Registers, Stepped, holds};
@@ -117,7 +117,7 @@ fn compute<B: Bus, Caller>(arch: Arch, s: &mut Registers, op: &Op) -> u32
         Op::OrrsRegister { rd, rn, rm } => data_by(arch, s, DataOp::Orr, true, rd, rn, LowRegister { rm }),
         Op::BicsRegister { rd, rn, rm } => data_by(arch, s, DataOp::Bic, true, rd, rn, LowRegister { rm }),
         Op::DataShifted { op, rd, rn, by } => data_by(arch, s, op, false, rd, rn, LowShifted { by }),
-        Op::DataShiftedBy { op, rd, rn, rm, shift, rs } => data_by_register(arch, s, op, rd, rn, rm, shift, rs),
+        Op::DataShiftedBy { op, rd, rn, rm, shift, rs } => data_shifted_by(arch, s, op, rd, rn, rm, shift, rs),
         Op::TstNumber { rn, number } => compare_by(arch, s, CompareOp::Tst, rn, number),
         Op::CmpNumber { rn, value } => compare_by(arch, s, CompareOp::Cmp, rn, kept(value)),
         Op::CmnNumber { rn, value } => compare_by(arch, s, CompareOp::Cmn, rn, kept(value)),

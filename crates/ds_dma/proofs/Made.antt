@@ -1,8 +1,8 @@
-use Rattle.std.proofs.Common.{ℕ, zero, suc, ◌≡◌, ◌<◌, ◌≤◌, ◌^◌, ◌==◌, true, List, [], ◌∷◌, Option, Some, None, refl, arith}
+use Rattle.std.proofs.Common.{ℕ, zero, suc, ◌<◌, [], ◌∷◌, Option, refl, arith}
 use Rattle.ds_base.specs.Schedules.{IsEarly}
 use Rattle.ds_base.specs.declared.processors.Proc.{Proc}
 use Rattle.ds_dma.specs.Channels.{ChannelState, IsChannel}
-use Rattle.ds_dma.specs.States.{DmaState, HasEarlyTicks, IsDma, WaitsBriefly, channel_at, last_tick}
+use Rattle.ds_dma.specs.States.{HasEarlyTicks, IsDma, WaitsBriefly, channel_at, last_tick}
 use Rattle.ds_dma.specs.declared.channels.LastUnit.{LastUnit}
 
 -- Four that are each a channel in their place are the channels.

@@ -1,20 +1,21 @@
-use Rattle.std.proofs.Common.{rules, ℕ, zero, suc, ◌≡◌, ◌<◌, ◌≤◌, ◌+◌, ◌%◌, ◌^◌, ◌==◌, ◌&&◌, ◌||◌, not, nat_le, if◌then◌else◌, Bool, true, false, true≢false, List, [], ◌∷◌, length, Option, Some, None, is_some, IfSome, bit_and, refl, sym, ◌∙◌, ap, subst, arith}
+use Rattle.std.proofs.Common.{rules, ℕ, zero, suc, ◌≡◌, ◌<◌, ◌≤◌, ◌+◌, ◌%◌, ◌^◌, ◌==◌, ◌&&◌, ◌||◌, not, nat_le, Bool, true, false, true≢false, List, [], ◌∷◌, Option, Some, None, is_some, IfSome, bit_and, refl, sym, ◌∙◌, ap, subst, arith}
 use Rattle.std.specs.Int.Bits.{and_le_r, and_mask}
 use Rattle.ds_base.specs.Schedules.{due_number, numbered_due}
 use Rattle.ds_base.specs.declared.processors.Proc.{Proc}
 use Rattle.ds_base.specs.declared.ticks.Tick.{Tick}
 use Rattle.ds_base.specs.declared.processors.Proc.TheVariants.{Nine, Seven}
-use Rattle.ds_base.proofs.Choices.{either_by, equal, if_false, is_equal, is_unequal}
+use Rattle.ds_base.proofs.Choices.{both, both_true, either_by, equal, if_false, is_equal, is_le, is_unequal, le_of}
 use Rattle.ds_base.proofs.DueNumbers.{due_again, number_again}
 use Rattle.ds_dma.specs.Channels.{ChannelState, IsChannel, is_running}
 use Rattle.ds_dma.specs.Controls.{channel_control_mask, greatest_count, is_enabled}
-use Rattle.ds_dma.specs.Saved.{AreTriggeredBy, DmasAreSaved, burst_left, channel_format, dma_format, last_waits, numbered_last, runs_by, units_left, waits_by}
-use Rattle.ds_dma.specs.States.{DmaState, IsDma, WaitsBriefly, channel_at, last_tick, most_waits}
+use Rattle.ds_dma.specs.Saved.{AreTriggeredBy, ComesNoEarlier, DmasAreSaved, burst_left, channel_format, comes_by, channel_format_by, dma_format, dma_format_by, last_by, last_must, last_waits, must_run, numbered_last, runs_by, units_left, waits_by}
+use Rattle.ds_dma.specs.States.{DmaState, IsDma, WaitsBriefly, any_runs, channel_at, dma_due, last_tick, most_waits}
 use Rattle.ds_dma.specs.declared.channels.LastUnit.{LastUnit}
+use Rattle.ds_dma.specs.declared.dma.DmaDue.{DmaDue}
 use Rattle.ds_dma.proofs.Fours.{four_are}
 use Rattle.ds_state.proofs.Earlier.{earlier_again, earlier_fits, earlier_holds, earlier_made}
 use Rattle.ds_state.proofs.Exact.{one_spelling, round_trips}
-use Rattle.ds_state.specs.Formats.{earlier_tick, tick_or_0, tick_where, used_where}
+use Rattle.ds_state.specs.Formats.{earlier_tick, tick_or_0, tick_where, used_where, bytes_written}
 use Rattle.ds_state.specs.Laws.{IsExact, StandsFor}
 
 -- What the channels owe of their formats.
@@ -26,9 +27,9 @@ runs_again false n = refl
 trigger_again : (running : Bool) (at n : ℕ) → earlier_tick running at n ≡ true → tick_or_0 (due_number (numbered_due (tick_where running n))) ≡ n
 trigger_again running at n rule = ap tick_or_0 (number_again (tick_where running n)) ∙ earlier_again running at n rule
 
-channel_exact : (proc : Proc) (which at : ℕ) → IsExact (channel_format proc which) at
-unfolding channel_format
-channel_exact proc which at = λ sad _ _ dad _ _ cnt _ _ from _ _ to _ _ remaining _ _ burst _ _ running _ _ trigger _ rule.
+channel_exact : (proc : Proc) (which : ℕ) (must : Bool) (at : ℕ) → IsExact (channel_format_by proc which must) at
+unfolding channel_format_by
+channel_exact proc which must at = λ sad _ _ dad _ _ cnt _ _ from _ _ to _ _ remaining _ _ burst _ _ running _ _ trigger _ rule.
     (trigger_again running at trigger rule, (runs_again running trigger, search rules))
 
 last_again : (tick waits at : ℕ) → waits_by tick at waits ≡ true → (tick_or_0 (due_number (last_tick (numbered_last tick waits))) ≡ tick) × (last_waits (numbered_last tick waits) ≡ waits)
@@ -39,18 +40,21 @@ last_again tick waits at rule = by_number tick rule where
       let there : numbered_last (suc n) waits ≡ Some (record { tick = record { 0 = suc n }; waits = waits }) = if_false (suc n == 0) _ _ (is_unequal (suc n) 0 (omega arith)) in
       (ap (λ (last : Option LastUnit). tick_or_0 (due_number (last_tick last))) there, ap last_waits there)
 
-dma_exact : (proc : Proc) (at : ℕ) → IsExact (dma_format proc) at
-unfolding dma_format
-dma_exact proc at = (
-  channel_exact proc 0 at,
+waits_of : (proc : Proc) (channels : List ChannelState) (tick at waits : ℕ) → last_by proc channels tick at waits ≡ true → waits_by tick at waits ≡ true
+waits_of proc channels tick at waits rule = (both _ _ rule).1
+
+pub dma_exact : (proc : Proc) (late : Bool) (at : ℕ) → IsExact (dma_format_by proc late) at
+unfolding dma_format_by
+dma_exact proc late at = (
+  channel_exact proc 0 false at,
   λ zero _. (
-    channel_exact proc 1 at,
+    channel_exact proc 1 false at,
     λ one _. (
-      channel_exact proc 2 at,
+      channel_exact proc 2 false at,
       λ two _. (
-        channel_exact proc 3 at,
+        channel_exact proc 3 (last_must late zero one two) at,
         λ three _.
-            λ tick _ _ waits _ rule. (let again = last_again tick waits at rule in (again.1, (again.0, search rules))),
+            λ tick _ _ waits _ rule. (let again = last_again tick waits at (waits_of proc (zero ∷ one ∷ two ∷ three ∷ []) tick at waits rule) in (again.1, (again.0, search rules))),
       ),
     ),
   ),
@@ -99,10 +103,14 @@ below v small = grind (arith, small)
 address_kept : (v : ℕ) → v < 2 ^ 28 → (bit_and v 0x0FFFFFFF == v) ≡ true
 address_kept v small = is_equal _ _ (and_mask v 28 ∙ below v small)
 
-channel_stands : (proc : Proc) (which at : ℕ) (c : ChannelState) → at ≤ 2 ^ 56 → IsChannel proc which c
-    → IfSome (due_number c.trigger) (λ trigger. trigger ≤ at) → StandsFor (channel_format proc which) at c
-unfolding channel_format
-channel_stands proc which at c early is triggered =
+must_holds : (must running : Bool) → (must ≡ true → running ≡ true) → must_run must running ≡ true
+must_holds true running runs = runs refl
+must_holds false running runs = refl
+
+channel_stands : (proc : Proc) (which : ℕ) (must : Bool) (at : ℕ) (c : ChannelState) → at ≤ 2 ^ 56 → IsChannel proc which c
+    → IfSome (due_number c.trigger) (λ trigger. trigger ≤ at) → (must ≡ true → is_running c ≡ true) → StandsFor (channel_format_by proc which must) at c
+unfolding channel_format_by
+channel_stands proc which must at c early is triggered runs =
     let enabled = is_enabled c.cnt in
     let sad = address_kept c.sad is.sad in let dad = address_kept c.dad is.dad in
     let s = is.sad in let d = is.dad in
@@ -119,7 +127,7 @@ channel_stands proc which at c early is triggered =
     let to = used_holds enabled at c.to (λ off. (is.none off).1) in
     let units = units_hold proc which at enabled c.remaining is.some is.remaining (λ off. (is.none off).2) in
     let burst = burst_holds enabled c.remaining at c.burst is.within is.burst in
-    let runs = runs_hold enabled c.burst at c.trigger is.waits (λ off. (is.none off).3) in
+    let rules_hold = both_true _ _ (must_holds must (is_running c) runs) (runs_hold enabled c.burst at c.trigger is.waits (λ off. (is.none off).3)) in
     let fits = earlier_fits (due_number c.trigger) at early triggered in
     let holds = earlier_holds (due_number c.trigger) (is_running c) at triggered (running_number c.trigger) in
     let made = ap numbered_due (earlier_made (due_number c.trigger) (is_running c) (running_number c.trigger)) ∙ due_again c.trigger in (
@@ -144,7 +152,7 @@ channel_stands proc which at c early is triggered =
                   (
                     burst_small,
                     burst,
-                    (tt, runs, (fits, holds, tt)),
+                    (tt, rules_hold, (fits, holds, tt)),
                   ),
                 ),
               ),
@@ -177,32 +185,75 @@ last_keeps at (Some last) early brief there =
       made = if_false (last.tick.0 == 0) _ _ no;
     }
 
-dma_stands : (at : ℕ) (s : DmaState) → at ≤ 2 ^ 56 → IsDma s → AreTriggeredBy at s → StandsFor (dma_format s.proc) at s
-unfolding dma_format
-dma_stands at s early is by =
-    let stands : (which : ℕ) → which < 4 → StandsFor (channel_format s.proc which) at (channel_at s.channels which) =
-    λ which l. channel_stands s.proc which at (channel_at s.channels which) early (is.each which l) (by.trigger which l) in
-    let keeps = last_keeps at s.last early is.last by.last in (
+-- what is made of their values is the channels
+made_again : (s : DmaState) → IsDma s → numbered_last (tick_or_0 (due_number (last_tick s.last))) (last_waits s.last) ≡ s.last
+    → (let all : DmaState = record {
+      proc = s.proc;
+      channels = channel_at s.channels 0 ∷ channel_at s.channels 1 ∷ channel_at s.channels 2 ∷ channel_at s.channels 3 ∷ [];
+      last = numbered_last (tick_or_0 (due_number (last_tick s.last))) (last_waits s.last);
+    } in all) ≡ s
+made_again s is made =
+    ap (λ (xs : List ChannelState). (let all : DmaState = record s { channels = xs; last = numbered_last (tick_or_0 (due_number (last_tick s.last))) (last_waits s.last) } in all))
+    (sym (four_are s.channels is.four))
+    ∙ ap (λ (last : Option LastUnit). (let all : DmaState = record s { last = last } in all)) made
+
+-- a channel of ARM7 that is due comes no earlier
+pub none_earlier : (proc : Proc) (at : ℕ) (due : Option DmaDue) → comes_by proc at due ≡ true → proc ≡ Seven → IfSome due (λ due. at ≤ due.tick.0)
+none_earlier Nine at due rule is = absurd (search rules)
+none_earlier Seven at None rule is = tt
+none_earlier Seven at (Some due) rule is = le_of at due.tick.0 rule
+
+come_hold : (proc : Proc) (at : ℕ) (due : Option DmaDue) → (proc ≡ Seven → IfSome due (λ due. at ≤ due.tick.0)) → comes_by proc at due ≡ true
+come_hold Nine at due comes = refl
+come_hold Seven at None comes = refl
+come_hold Seven at (Some due) comes = is_le at due.tick.0 (comes refl)
+
+-- where one of four runs and three don't, the fourth does
+last_runs : (late a b c d : Bool) → (late ≡ true → (a || b || c || d) ≡ true) → (late && not (a || b || c)) ≡ true → d ≡ true
+last_runs false a b c d runs must = absurd (true≢false (sym must))
+last_runs true true b c d runs must = absurd (true≢false (sym must))
+last_runs true false true c d runs must = absurd (true≢false (sym must))
+last_runs true false false true d runs must = absurd (true≢false (sym must))
+last_runs true false false false d runs must = runs refl
+
+pub dma_stands : (late : Bool) (at : ℕ) (s : DmaState) → at ≤ 2 ^ 56 → IsDma s → AreTriggeredBy at s → ComesNoEarlier at s
+    → (late ≡ true → any_runs s.channels ≡ true) → StandsFor (dma_format_by s.proc late) at s
+unfolding dma_format_by
+dma_stands late at s early is by comes runs =
+    let channel = channel_at s.channels in
+    let stands : (which : ℕ) (must : Bool) → which < 4 → (must ≡ true → is_running (channel which) ≡ true) → StandsFor (channel_format_by s.proc which must) at (channel which) =
+    λ which must l. channel_stands s.proc which must at (channel which) early (is.each which l) (by.trigger which l) in
+    let free : (which : ℕ) → which < 4 → StandsFor (channel_format s.proc which) at (channel which) =
+    λ which l. stands which false l (λ on. absurd (true≢false (sym on))) in
+    let keeps = last_keeps at s.last early is.last by.last in
+    let again = made_again s is keeps.made in
+    let due = ap (λ (x : DmaState). comes_by s.proc at (dma_due x)) again ∙ come_hold s.proc at (dma_due s) comes in (
       (
-        stands 0 (omega arith),
+        free 0 (omega arith),
         (
-          stands 1 (omega arith),
+          free 1 (omega arith),
           (
-            stands 2 (omega arith),
+            free 2 (omega arith),
             (
-              stands 3 (omega arith),
-              (keeps.fits, keeps.earlier, (keeps.small, keeps.waits, tt)),
+              stands 3 (last_must late (channel 0) (channel 1) (channel 2)) (omega arith)
+                  (last_runs late (is_running (channel 0)) (is_running (channel 1)) (is_running (channel 2)) (is_running (channel 3)) runs),
+              (keeps.fits, keeps.earlier, (keeps.small, both_true _ _ due keeps.waits, tt)),
             ),
           ),
         ),
       ),
-      ap (λ (xs : List ChannelState). (let all : DmaState = record s { channels = xs; last = numbered_last (tick_or_0 (due_number (last_tick s.last))) (last_waits s.last) } in all))
-          (sym (four_are s.channels is.four))
-          ∙ ap (λ (last : Option LastUnit). (let all : DmaState = record s { last = last } in all)) keeps.made,
+      again,
     )
+
+bytes_by : (proc : Proc) (late : Bool) (before : List ℕ) (s : DmaState) → bytes_written (dma_format_by proc late) before s ≡ bytes_written (dma_format proc) before s
+unfolding dma_format_by channel_format_by
+bytes_by proc late before s = refl
 
 pub dmas_saved : DmasAreSaved
 dmas_saved = record {
-  back = λ at s early is by. round_trips (dma_format s.proc) at s (dma_stands at s early is by);
-  spelling = λ proc at. one_spelling (dma_format proc) at (dma_exact proc at);
+  back = λ at s early is by comes. round_trips (dma_format s.proc) at s (dma_stands false at s early is by comes (λ on. absurd (true≢false (sym on))));
+  back_by = λ late at s early is by comes runs. round_trips (dma_format_by s.proc late) at s (dma_stands late at s early is by comes runs);
+  same_bytes = bytes_by;
+  spelling = λ proc at. one_spelling (dma_format proc) at (dma_exact proc false at);
+  spelling_by = λ proc late at. one_spelling (dma_format_by proc late) at (dma_exact proc late at);
 }

@@ -1,11 +1,13 @@
-use Rattle.std.specs.Prelude.{ℕ, ◌<◌, ◌≡◌, ◌≤◌, ◌+◌, ◌^◌, ◌==◌, ◌&&◌, ◌||◌, not, nat_le, nat_lt, if◌then◌else◌, Bool, true, List, [], ◌∷◌, Option, Some, None, IfSome}
+use Rattle.std.specs.Prelude.{ℕ, ◌<◌, ◌≡◌, ◌≤◌, ◌+◌, ◌^◌, ◌==◌, ◌&&◌, ◌||◌, not, nat_le, if◌then◌else◌, Bool, true, false, List, [], ◌∷◌, Option, Some, None, IfSome}
 use Rattle.ds_base.specs.Schedules.{due_number, numbered_due}
 use Rattle.ds_base.specs.declared.processors.Proc.{Proc}
+use Rattle.ds_base.specs.declared.processors.Proc.TheVariants.{Nine, Seven}
 use Rattle.ds_dma.specs.Channels.{ChannelState, is_running}
 use Rattle.ds_dma.specs.Controls.{channel_control_mask, greatest_count, is_enabled}
-use Rattle.ds_dma.specs.States.{DmaState, IsDma, channel_at, last_tick, most_waits}
+use Rattle.ds_dma.specs.States.{DmaState, IsDma, any_runs, channel_at, dma_due, last_tick, most_waits}
 use Rattle.ds_dma.specs.declared.channels.LastUnit.{LastUnit}
-use Rattle.ds_state.specs.Formats.{Format, number_code, flag_code, done, ◌>>=◌, one_field, its, any, earlier_tick, keeps_mask, tick_or_0, tick_where, used_where}
+use Rattle.ds_dma.specs.declared.dma.DmaDue.{DmaDue}
+use Rattle.ds_state.specs.Formats.{Format, number_code, flag_code, done, ◌>>=◌, one_field, its, earlier_tick, keeps_mask, tick_or_0, tick_where, used_where, bytes_written}
 use Rattle.ds_state.specs.Laws.{OneSpelling, RoundTrips}
 
 -- The channels in bytes (our choice of form).
@@ -22,8 +24,12 @@ burst_left enabled units at burst = not enabled || (nat_le burst units && nat_le
 abbrev pub runs_by : Bool → ℕ → ℕ → Bool → Bool
 runs_by enabled burst at running = if running then enabled else burst == 0
 
-unfoldable pub channel_format : Proc → ℕ → Format ChannelState ChannelState
-channel_format proc which = do
+abbrev pub must_run : Bool → Bool → Bool
+must_run must running = if must then running else true
+
+-- a channel, by whether it must run, which what stands before it tells
+unfoldable pub channel_format_by : Proc → ℕ → Bool → Format ChannelState ChannelState
+channel_format_by proc which must = do
   sad ← one_field (number_code 4) (λ c. c.sad) (keeps_mask 0x0FFFFFFF)
   dad ← one_field (number_code 4) (λ c. c.dad) (keeps_mask 0x0FFFFFFF)
   cnt ← one_field (number_code 4) (λ c. c.cnt) (keeps_mask (channel_control_mask proc which))
@@ -31,7 +37,7 @@ channel_format proc which = do
   to ← one_field (number_code 4) (λ c. c.to) (used_where (is_enabled cnt))
   remaining ← one_field (number_code 4) (λ c. c.remaining) (units_left proc which (is_enabled cnt))
   burst ← one_field (number_code 4) (λ c. c.burst) (burst_left (is_enabled cnt) remaining)
-  running ← one_field flag_code is_running (runs_by (is_enabled cnt) burst)
+  running ← one_field flag_code is_running (λ at running. must_run must running && runs_by (is_enabled cnt) burst at running)
   trigger ← one_field (number_code 8) (λ c. tick_or_0 (due_number c.trigger)) (earlier_tick running)
   done (record {
     sad = sad;
@@ -44,6 +50,9 @@ channel_format proc which = do
     burst = burst;
   })
 
+abbrev pub channel_format : Proc → ℕ → Format ChannelState ChannelState
+channel_format proc which = channel_format_by proc which false
+
 -- the waits of the last unit, 0 where there was none
 abbrev pub last_waits : Option LastUnit → ℕ
 last_waits None = 0
@@ -53,25 +62,55 @@ last_waits (Some last) = last.waits
 abbrev pub waits_by : ℕ → ℕ → ℕ → Bool
 waits_by tick at waits = if tick == 0 then waits == 0 else nat_le waits most_waits
 
+-- A channel that is due comes no earlier than the state. A stall may hold one of ARM9's past its tick.
+abbrev pub comes_by : Proc → ℕ → Option DmaDue → Bool
+comes_by Nine at due = true
+comes_by Seven at None = true
+comes_by Seven at (Some due) = nat_le at due.tick.0
+
 abbrev pub numbered_last : ℕ → ℕ → Option LastUnit
 numbered_last tick waits = if tick == 0 then None else Some (record { tick = record { 0 = tick }; waits = waits })
 
-unfoldable pub dma_format : Proc → Format DmaState DmaState
-dma_format proc = do
+abbrev pub last_by : Proc → List ChannelState → ℕ → ℕ → ℕ → Bool
+last_by proc channels tick at waits =
+    comes_by proc at (dma_due (record { proc = proc; channels = channels; last = numbered_last tick waits })) && waits_by tick at waits
+
+-- of four of which one must run it is the last where no other does
+abbrev pub last_must : Bool → ChannelState → ChannelState → ChannelState → Bool
+last_must late zero one two = late && not (is_running zero || is_running one || is_running two)
+
+-- The four channels of a processor, by whether it is late: its own next step is due before the tick of the state, as only a channel that runs can
+-- have it. This is told where the last channel says whether it runs.
+unfoldable pub dma_format_by : Proc → Bool → Format DmaState DmaState
+dma_format_by proc late = do
   zero ← its (channel_format proc 0) (λ s. channel_at s.channels 0)
   one ← its (channel_format proc 1) (λ s. channel_at s.channels 1)
   two ← its (channel_format proc 2) (λ s. channel_at s.channels 2)
-  three ← its (channel_format proc 3) (λ s. channel_at s.channels 3)
+  three ← its (channel_format_by proc 3 (last_must late zero one two)) (λ s. channel_at s.channels 3)
   tick ← one_field (number_code 8) (λ s. tick_or_0 (due_number (last_tick s.last))) (earlier_tick true)
-  waits ← one_field (number_code 4) (λ s. last_waits s.last) (waits_by tick)
+  waits ← one_field (number_code 4) (λ s. last_waits s.last) (last_by proc (zero ∷ one ∷ two ∷ three ∷ []) tick)
   done (record { proc = proc; channels = zero ∷ one ∷ two ∷ three ∷ []; last = numbered_last tick waits })
+
+-- the same of one that isn't late
+abbrev pub dma_format : Proc → Format DmaState DmaState
+dma_format proc = dma_format_by proc false
 
 -- the channels at a tick: no trigger is later, and the last unit isn't later, nor at tick 0
 pub record AreTriggeredBy (at : ℕ) (s : DmaState) : Type 0 where
   pub trigger : (which : ℕ) → which < 4 → IfSome (due_number (channel_at s.channels which).trigger) (λ trigger. trigger ≤ at)
   pub last : IfSome (due_number (last_tick s.last)) (λ last. (1 ≤ last) × (last ≤ at))
 
--- their bytes are read as they were, and bytes that are read are theirs
+-- and of ARM7 none is due earlier
+abbrev pub ComesNoEarlier : ℕ → DmaState → Type 0
+ComesNoEarlier at s = s.proc ≡ Seven → IfSome (dma_due s) (λ due. at ≤ due.tick.0)
+
+-- Their bytes are read as they were, those of a processor that is late where a channel runs; and bytes that are read are theirs. The bytes are the
+-- same whether it is late or not.
 pub record DmasAreSaved : Type 0 where
-  pub back : (at : ℕ) (s : DmaState) → at ≤ 2 ^ 56 → IsDma s → AreTriggeredBy at s → RoundTrips (dma_format s.proc) at s
+  pub back : (at : ℕ) (s : DmaState) → at ≤ 2 ^ 56 → IsDma s → AreTriggeredBy at s → ComesNoEarlier at s → RoundTrips (dma_format s.proc) at s
+  pub back_by : (late : Bool) (at : ℕ) (s : DmaState) → at ≤ 2 ^ 56 → IsDma s → AreTriggeredBy at s → ComesNoEarlier at s
+      → (late ≡ true → any_runs s.channels ≡ true) → RoundTrips (dma_format_by s.proc late) at s
+  pub same_bytes : (proc : Proc) (late : Bool) (before : List ℕ) (s : DmaState)
+      → bytes_written (dma_format_by proc late) before s ≡ bytes_written (dma_format proc) before s
   pub spelling : (proc : Proc) (at : ℕ) → OneSpelling (dma_format proc) at
+  pub spelling_by : (proc : Proc) (late : Bool) (at : ℕ) → OneSpelling (dma_format_by proc late) at

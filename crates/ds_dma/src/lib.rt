@@ -11,7 +11,8 @@
 //! none is (`settles`). `Dma::due`: of the running channels the least is due, 4 ticks after its trigger, and 4 after the processor's last
 //! unit and the waits of its two accesses, whichever is later; each call tells what it does to due ticks. `relation_laws`: a control's change
 //! is one of three cases (`change`), a unit that is taken one of four (`takes`), of a channel that is due (`some`); and the channel whose turn
-//! it is is the least that runs (`least`). `pack`, `unpack`, `saved_laws`: the channels in bytes.
+//! it is is the least that runs (`least`). `pack`, `unpack`, `saved_laws`: the channels in bytes; `unpack_by` also refuses, where the last
+//! channel says whether it runs, four of which none does, for a processor that the caller tells to be late.
 //!
 //! Only tested, in `units_tests`: worked rows for each address mode, both widths, counts of 0, repeats, priorities, refusals, bursts.
 #![tactic(auto)]

@@ -1,15 +1,15 @@
-use Rattle.std.proofs.Common.{rules, ℕ, ◌≡◌, ◌<◌, ◌≤◌, ◌+◌, ◌-◌, ◌*◌, ◌^◌, ◌==◌, nat_le, if◌then◌else◌, Bool, true, false, List, [], ◌∷◌, length, Option, Some, None, is_some, IfSome, bit_and, refl, sym, ◌∙◌, ap, arith}
+use Rattle.std.proofs.Common.{rules, ℕ, ◌≡◌, ◌<◌, ◌≤◌, ◌^◌, ◌==◌, if◌then◌else◌, Bool, true, false, true≢false, not, List, [], ◌∷◌, length, Option, Some, None, is_some, IfSome, bit_and, refl, sym, arith}
 use Rattle.std.specs.Int.{bit_not, w32}
 use Rattle.ds_base.specs.declared.processors.Proc.{Proc}
 use Rattle.ds_base.specs.declared.ticks.Tick.{Tick}
-use Rattle.ds_base.proofs.Choices.{equal, is_equal}
+use Rattle.ds_base.proofs.Choices.{both, equal, is_equal, not_false}
 use Rattle.ds_state.specs.Formats.{bytes_written}
 use Rattle.ds_state.specs.Laws.{IsExact, StandsFor}
 use Rattle.ds_state.proofs.Exact.{one_spelling, round_trips}
 use Rattle.ds_state.proofs.Kept.{kept_twice}
-use Rattle.ds_timers.specs.Irqs.{IrqState, IsIrq, events, interrupts_of, irq_levelled, level}
-use Rattle.ds_timers.specs.Saved.{IrqsAreSaved, IsAnchoredAt, TimersAreSaved, anchor_number, anchors, anchors_by, irq_format, numbered_anchor, timer_format, timers_format}
-use Rattle.ds_timers.specs.Timing.{AreTimers, IsTimer, TimerState, full, kept_control, pace, runs_free, timer_at, timer_due}
+use Rattle.ds_timers.specs.Irqs.{IrqState, IsIrq, events, interrupts_of, irq_levelled, level, shares_bit}
+use Rattle.ds_timers.specs.Saved.{IrqsAreSaved, IsAnchoredAt, TimersAreSaved, anchor_number, anchors_by, flags_by, irq_format, irq_format_by, timer_format, timers_format}
+use Rattle.ds_timers.specs.Timing.{AreTimers, IsTimer, TimerState, full, pace, runs_free, timer_at}
 
 -- What the interrupt words and the timers owe of their formats.
 
@@ -17,18 +17,27 @@ use Rattle.ds_timers.specs.Timing.{AreTimers, IsTimer, TimerState, full, kept_co
 events_twice : (word : ℕ) → events (events word) ≡ events word
 events_twice word = kept_twice word (bit_not w32 level)
 
-irq_exact : (proc : Proc) (at : ℕ) → IsExact (irq_format proc) at
-unfolding irq_format
-irq_exact proc at = λ ime _ _ ie _ _ if_ _ rule. (equal (events if_) if_ rule, search rules)
+-- a rule of two tests holds where both do
+flags_hold : (asleep : Bool) (ie at flags : ℕ) → (asleep ≡ true → (not (bit_and ie flags == 0)) ≡ false) → (bit_and flags (bit_not w32 level) == flags) ≡ true
+    → flags_by asleep ie at flags ≡ true
+flags_hold false ie at flags apart kept = kept
+flags_hold true ie at flags apart kept = rw (not_false _ (apart refl)) kept
 
-irq_stands : (proc : Proc) (at : ℕ) (i : IrqState) → IsIrq i → bit_and i.ie (interrupts_of proc) ≡ i.ie → events i.if_ ≡ i.if_ → StandsFor (irq_format proc) at i
-unfolding irq_format
-irq_stands proc at i is kept low =
+pub irq_exact : (proc : Proc) (asleep : Bool) (at : ℕ) → IsExact (irq_format_by proc asleep) at
+unfolding irq_format_by
+irq_exact proc asleep at = λ ime _ _ ie _ _ if_ _ rule. (equal (events if_) if_ (both _ _ rule).1, search rules)
+
+pub irq_stands : (proc : Proc) (asleep : Bool) (at : ℕ) (i : IrqState) → IsIrq i → bit_and i.ie (interrupts_of proc) ≡ i.ie → events i.if_ ≡ i.if_
+    → (asleep ≡ true → shares_bit i ≡ false) → StandsFor (irq_format_by proc asleep) at i
+unfolding irq_format_by
+irq_stands proc asleep at i is kept low apart =
     let ie = is.ie in let if_ = is.if_ in
     let enables = is_equal _ _ kept in
     let flags : (events (events i.if_) == events i.if_) ≡ true = is_equal _ _ (events_twice i.if_) in
     let fits : events i.if_ < 2 ^ 32 = rw (low) if_ in
-    (search rules, rw low refl)
+    let ruled : flags_by asleep i.ie at (events i.if_) ≡ true =
+    flags_hold asleep i.ie at (events i.if_) (λ on. rw (low) (apart on)) flags in
+    ((tt, refl, (ie, enables, (fits, ruled, tt))), rw low refl)
 
 -- an anchor is there exactly where the timer counts time
 anchor_again : (free : Bool) (control count at number : ℕ) → anchors_by free control count at number ≡ true
@@ -40,7 +49,7 @@ timer_exact : (which at : ℕ) → IsExact (timer_format which) at
 unfolding timer_format
 timer_exact which at = λ reload _ _ control _ _ count _ _ since _ rule. (anchor_again (runs_free which control) control count at since rule, search rules)
 
-timers_exact : (at : ℕ) → IsExact timers_format at
+pub timers_exact : (at : ℕ) → IsExact timers_format at
 unfolding timers_format
 timers_exact at = (timer_exact 0 at, λ zero _. (timer_exact 1 at, λ one _. (timer_exact 2 at, λ two _. (timer_exact 3 at, λ three _. search rules))))
 
@@ -75,7 +84,7 @@ four_are (a ∷ b ∷ c ∷ []) h = absurd (omega (arith, h))
 four_are (a ∷ b ∷ c ∷ d ∷ []) h = refl
 four_are (a ∷ b ∷ c ∷ d ∷ e ∷ rest) h = absurd (omega (arith, h))
 
-timers_stand : (at : ℕ) (timers : List TimerState) → at ≤ 2 ^ 56 → AreTimers timers → ((which : ℕ) → which < 4 → IsAnchoredAt at (timer_at timers which))
+pub timers_stand : (at : ℕ) (timers : List TimerState) → at ≤ 2 ^ 56 → AreTimers timers → ((which : ℕ) → which < 4 → IsAnchoredAt at (timer_at timers which))
     → StandsFor timers_format at timers
 unfolding timers_format
 timers_stand at timers early are anchored =
@@ -83,15 +92,23 @@ timers_stand at timers early are anchored =
     λ which l. timer_stands which at (timer_at timers which) early (are.each which l) (anchored which l) in
     ((stands 0 (omega arith), (stands 1 (omega arith), (stands 2 (omega arith), (stands 3 (omega arith), tt)))), four_are timers are.four)
 
+bytes_by : (proc : Proc) (asleep : Bool) (before : List ℕ) (i : IrqState)
+    → bytes_written (irq_format_by proc asleep) before i ≡ bytes_written (irq_format proc) before i
+unfolding irq_format_by
+bytes_by proc asleep before i = refl
+
 levels : (proc : Proc) (before : List ℕ) (i : IrqState) → bytes_written (irq_format proc) before i ≡ bytes_written (irq_format proc) before (irq_levelled i false)
-unfolding irq_format
+unfolding irq_format_by
 levels proc before i = rw (events_twice i.if_) refl
 
 pub irqs_saved : IrqsAreSaved
 irqs_saved = record {
-  back = λ proc at i is kept low. round_trips (irq_format proc) at i (irq_stands proc at i is kept low);
+  back = λ proc at i is kept low. round_trips (irq_format proc) at i (irq_stands proc false at i is kept low (λ on. absurd (true≢false (sym on))));
+  back_by = λ proc asleep at i is kept low apart. round_trips (irq_format_by proc asleep) at i (irq_stands proc asleep at i is kept low apart);
   level = levels;
-  spelling = λ proc at. one_spelling (irq_format proc) at (irq_exact proc at);
+  same_bytes = bytes_by;
+  spelling = λ proc at. one_spelling (irq_format proc) at (irq_exact proc false at);
+  spelling_by = λ proc asleep at. one_spelling (irq_format_by proc asleep) at (irq_exact proc asleep at);
 }
 
 pub timers_saved : TimersAreSaved

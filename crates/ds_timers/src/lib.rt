@@ -13,7 +13,8 @@
 //! reload again (`again`). A call at a tick makes its timer due after that tick or not at all, and the others as before (`alone`,
 //! `schedule`). `Timers::laws` tells that the four are always timers (the kept bits of a control alone, numbers of 16 bits, an anchor
 //! exactly where one counts time), `Irq::laws` that IE and IF have 32 bits. `set_control` asks for a tick up to 2^56, and `overflow` that
-//! the timer is due at one. `pack`, `unpack`, `saved_laws`: both in bytes; nothing else takes memory.
+//! the timer is due at one. `pack`, `unpack`, `saved_laws`: both in bytes; `Irq::unpack_by` also refuses, at IF, words that would wake a
+//! processor which the caller tells to be asleep; nothing else takes memory.
 //!
 //! Only tested, in `units_tests`: that the clauses say what worked values say (an overflow, a chain of three and where it ends, each pace,
 //! each change of control, the line).

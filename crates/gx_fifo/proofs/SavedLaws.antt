@@ -6,17 +6,19 @@ use Rattle.ds_base.specs.Bits.{bit}
 use Rattle.ds_base.specs.Schedules.{due_number, numbered_due}
 use Rattle.ds_base.specs.declared.ticks.Tick.{Tick}
 use Rattle.ds_base.proofs.DueNumbers.{due_again, number_again}
-use Rattle.ds_state.specs.Formats.{keeps_mask}
+use Rattle.ds_base.proofs.Choices.{both_true, is_le}
+use Rattle.ds_state.specs.Formats.{keeps_mask, bytes_written}
 use Rattle.ds_state.specs.Laws.{IsExact, StandsFor}
 use Rattle.ds_state.proofs.Exact.{one_spelling, round_trips}
 use Rattle.ds_state.proofs.Masks.{kept_top}
 use Rattle.ds_state.proofs.Soon.{soon_fits}
 use Rattle.gx_geometry.proofs.SavedLaws.{geometry_exact, geometry_stands}
 use Rattle.gx_fifo.specs.declared.entries.GxEntry.{GxEntry}
-use Rattle.gx_fifo.specs.Entries.{complete_command}
+use Rattle.gx_fifo.specs.declared.gx.saved.Asked.{Asked}
+use Rattle.gx_fifo.specs.Entries.{complete_command, most_entries}
 use Rattle.gx_fifo.specs.PackedWords.{first_parameters, is_given}
-use Rattle.gx_fifo.specs.GxStates.{GxState}
-use Rattle.gx_fifo.specs.Saved.{GxIsSaved, IsSavedGx, are_left, entry_format, gx_format, may_wait}
+use Rattle.gx_fifo.specs.GxStates.{GxState, waiting_entries}
+use Rattle.gx_fifo.specs.Saved.{GxIsSaved, IsSavedGx, are_left, asks_nothing, count_by, entry_format, gx_format, gx_format_by, holds_by, may_wait}
 use Rattle.gx_fifo.proofs.Codes.{code_of, code_small, first_again, has_again}
 use Rattle.gx_fifo.proofs.Unpacks.{no_parameters}
 
@@ -147,9 +149,9 @@ waits_may parameter due head at true e none = rw e refl
 waits_may parameter due true at false e none = rw (e, none refl) refl
 waits_may parameter due false at false e none = rw (e, none refl) refl
 
-gx_exact : (at : ℕ) → IsExact gx_format at
-unfolding gx_format
-gx_exact at = (
+pub gx_exact : (asked : Asked) (at : ℕ) → IsExact (gx_format_by asked) at
+unfolding gx_format_by
+gx_exact asked at = (
   geometry_exact at,
   λ geometry _ display _ _ selector _ _ count _ _. (
     entry_exact at,
@@ -160,14 +162,19 @@ gx_exact at = (
   ),
 )
 
-gx_stands : (at : ℕ) (s : GxState) → at ≤ 2 ^ 56 → IsSavedGx at s → StandsFor gx_format at s
-unfolding gx_format
-gx_stands at s early is =
+few_hold : (asked : Asked) (selector at count : ℕ) → holds_by asked selector count ≡ true → count ≤ most_entries → count_by asked selector at count ≡ true
+few_hold asked selector at count holds few = both_true _ _ holds (is_le count most_entries few)
+
+pub gx_stands : (asked : Asked) (at : ℕ) (s : GxState) → at ≤ 2 ^ 56 → IsSavedGx at s → holds_by asked s.selector (waiting_entries s) ≡ true
+    → StandsFor (gx_format_by asked) at s
+unfolding gx_format_by
+gx_stands asked at s early is holds =
     let geometry = geometry_stands at s.geometry early is.geometry in
     let display = is.is.display in
     let kept = display_kept at s.display is.is.display is.is.overflow_apart in
     let selector = is.is.selector in
-    let few = is.is.waiting.entries in
+    let most = is.is.waiting.entries in
+    let few = few_hold asked s.selector at (waiting_entries s) holds is.is.waiting.entries in
     let entries = entries_stand at s.fifo.entries is.words in
     let packed = is.is.waiting.packed in
     let left = given_left s.fifo.packed at s.fifo.given is.is.waiting.given in
@@ -179,10 +186,17 @@ gx_stands at s early is =
     (number_there s.due ∙ is.is.waiting.due) is.is.parameter in
     (search rules, rw (again, due) refl)
 
+bytes_by : (asked : Asked) (before : List ℕ) (s : GxState) → bytes_written (gx_format_by asked) before s ≡ bytes_written gx_format before s
+unfolding gx_format_by
+bytes_by asked before s = refl
+
 pub gx_saved : GxIsSaved
 gx_saved = record {
-  back = λ at s early is. round_trips gx_format at s (gx_stands at s early is);
-  spelling = λ at. one_spelling gx_format at (gx_exact at);
+  back = λ at s early is. round_trips gx_format at s (gx_stands asks_nothing at s early is refl);
+  back_by = λ asked at s early is holds. round_trips (gx_format_by asked) at s (gx_stands asked at s early is holds);
+  same_bytes = bytes_by;
+  spelling = λ at. one_spelling gx_format at (gx_exact asks_nothing at);
+  spelling_by = λ asked at. one_spelling (gx_format_by asked) at (gx_exact asked at);
 }
 
 -- a command that is due holds no swap up

@@ -33,22 +33,34 @@ gx_at_boot = record { geometry = geometry_at_boot; fifo = fifo_at_boot; due = No
 abbrev pub waiting_entries : GxState → ℕ
 waiting_entries s = length s.fifo.entries
 
--- GXSTAT's count: the oldest four entries, which stand next before the engine, don't count, and it is held to 256 (GBATEK, GXSTAT bits 16 to 24; the
--- four are GBATEK's "PIPE")
+-- GXSTAT's count, by how many entries wait: the oldest four, which stand next before the engine, don't count, and it is held to 256 (GBATEK, GXSTAT
+-- bits 16 to 24; the four are GBATEK's "PIPE")
+abbrev pub shown_of : ℕ → ℕ
+shown_of waiting = min 256 (waiting - 4)
+
 abbrev pub shown_count : GxState → ℕ
-shown_count s = min 256 (waiting_entries s - 4)
+shown_count s = shown_of (waiting_entries s)
 
 -- ARM9 and its DMA are held up while more than the pipe and the FIFO hold wait (GBATEK, "GXFIFO": 4 and 256)
+abbrev pub stalls_by : ℕ → Bool
+stalls_by waiting = nat_lt 260 waiting
+
 abbrev pub is_stalled : GxState → Bool
-is_stalled s = nat_lt 260 (waiting_entries s)
+is_stalled s = stalls_by (waiting_entries s)
 
 -- GXSTAT's count is below half of the FIFO, by which DMA is started (GBATEK, GXSTAT bit 25)
+abbrev pub half_empty_by : ℕ → Bool
+half_empty_by waiting = nat_lt (shown_of waiting) 128
+
 abbrev pub is_half_empty : GxState → Bool
-is_half_empty s = nat_lt (shown_count s) 128
+is_half_empty s = half_empty_by (waiting_entries s)
 
 -- the interrupt's level, by GXSTAT's selector: 1 below half, 2 empty, 0 and 3 never (GBATEK, GXSTAT bits 30 to 31; 3 by our choice)
+abbrev pub level_by : ℕ → ℕ → Bool
+level_by selector waiting = (selector == 1 && half_empty_by waiting) || (selector == 2 && shown_of waiting == 0)
+
 abbrev pub gx_level : GxState → Bool
-gx_level s = (s.selector == 1 && is_half_empty s) || (s.selector == 2 && shown_count s == 0)
+gx_level s = level_by s.selector (waiting_entries s)
 
 -- What the ports read.
 

@@ -1,16 +1,17 @@
-use Rattle.std.specs.Prelude.{ℕ, ◌≡◌, ◌<◌, ◌≤◌, ◌-◌, ◌^◌, ◌==◌, ◌&&◌, ◌||◌, not, nat_le, if◌then◌else◌, Bool, true, length, is_some, unwrap_or}
+use Rattle.std.specs.Prelude.{ℕ, ◌≡◌, ◌<◌, ◌≤◌, ◌-◌, ◌^◌, ◌==◌, ◌&&◌, ◌||◌, not, nat_le, if◌then◌else◌, Bool, true, false, List, length, is_some, unwrap_or}
 use Rattle.std.specs.List.{AllByRecursion}
 use Rattle.ds_base.specs.Schedules.{due_number, numbered_due}
-use Rattle.ds_state.specs.Formats.{Format, number_code, flag_code, tick, done, ◌>>=◌, one_field, its, each, any, at_most, keeps_mask, soon}
+use Rattle.ds_state.specs.Formats.{Format, number_code, flag_code, tick, done, ◌>>=◌, one_field, its, each, any, at_most, keeps_mask, soon, bytes_written}
 use Rattle.ds_state.specs.Laws.{OneSpelling, RoundTrips}
 use Rattle.gx_matrix.specs.CommandTable.{command_of, command_row}
 use Rattle.gx_matrix.specs.declared.commands.GeometryCommand.{GeometryCommand}
 use Rattle.gx_matrix.specs.declared.commands.GeometryCommand.TheVariants.{MtxMode}
 use Rattle.gx_geometry.specs.Saved.{HasBounds, IsSavedGeometry, geometry_format}
 use Rattle.gx_fifo.specs.declared.entries.GxEntry.{GxEntry}
+use Rattle.gx_fifo.specs.declared.gx.saved.Asked.{Asked}
 use Rattle.gx_fifo.specs.Entries.{complete_command, most_entries}
 use Rattle.gx_fifo.specs.PackedWords.{FifoState, first_parameters}
-use Rattle.gx_fifo.specs.GxStates.{GxState, IsGx}
+use Rattle.gx_fifo.specs.GxStates.{GxState, IsGx, half_empty_by, level_by, stalls_by, waiting_entries}
 
 -- The geometry engine with what waits for it in bytes: the engine; then the FIFO.
 
@@ -39,13 +40,28 @@ are_left packed at left = (packed == 0 && left == 0) || (nat_le 1 left && nat_le
 abbrev pub may_wait : ℕ → Bool → Bool → ℕ → Bool → Bool
 may_wait parameter due head at waits = if waits then not due else (parameter == 0 && (if head then due else not due))
 
--- DISP3DCNT's kept bits have no bit 13, which stands with the engine's results
-unfoldable pub gx_format : Format GxState GxState
-gx_format = do
+-- What the rest of a machine asks of how many entries wait: never so many, or the interrupt's level down, or a stall, or the FIFO not half empty.
+abbrev pub holds_by : Asked → ℕ → ℕ → Bool
+holds_by asked selector waiting =
+    (if asked.wakes then false else true)
+    && ((if asked.hears then not (level_by selector waiting) else true)
+    && ((if asked.late then stalls_by waiting else true) && (if asked.waits then not (half_empty_by waiting) else true)))
+
+-- nothing is asked
+abbrev pub asks_nothing : Asked
+asks_nothing = record { wakes = false; hears = false; late = false; waits = false }
+
+abbrev pub count_by : Asked → ℕ → ℕ → ℕ → Bool
+count_by asked selector at count = holds_by asked selector count && at_most most_entries at count
+
+-- By what the rest of a machine asks, which is told where it is said how many entries wait. DISP3DCNT's kept bits have no bit 13, which stands with
+-- the engine's results
+unfoldable pub gx_format_by : Asked → Format GxState GxState
+gx_format_by asked = do
   geometry ← its geometry_format (λ s. s.geometry)
   display ← one_field (number_code 2) (λ s. s.display) (keeps_mask 0x5FFF)
   selector ← one_field (number_code 1) (λ s. s.selector) (at_most 3)
-  count ← one_field (number_code 2) (λ s. length s.fifo.entries) (at_most most_entries)
+  count ← one_field (number_code 2) (λ s. length s.fifo.entries) (count_by asked selector)
   entries ← each count entry_format (λ s. s.fifo.entries)
   packed ← one_field (number_code 4) (λ s. s.fifo.packed) any
   left ← one_field (number_code 1) (λ s. parameters_left s.fifo) (are_left packed)
@@ -60,6 +76,9 @@ gx_format = do
     selector = selector;
   })
 
+abbrev pub gx_format : Format GxState GxState
+gx_format = gx_format_by asks_nothing
+
 -- what holds of each number at every time, beside what `IsGx` has
 pub record HasGxBounds (s : GxState) : Type 0 where
   pub geometry : HasBounds s.geometry
@@ -72,7 +91,11 @@ pub record IsSavedGx (at : ℕ) (s : GxState) : Type 0 where
   pub words : AllByRecursion (λ e. e.word < 2 ^ 32) s.fifo.entries
   pub due : soon at (due_number s.due) ≡ true
 
--- its bytes are read as it was, and bytes that are read are its own
+-- Its bytes are read as it was, where it holds what the rest asks, and bytes that are read are its own. Its bytes are the same whatever is asked.
 pub record GxIsSaved : Type 0 where
   pub back : (at : ℕ) (s : GxState) → at ≤ 2 ^ 56 → IsSavedGx at s → RoundTrips gx_format at s
+  pub back_by : (asked : Asked) (at : ℕ) (s : GxState) → at ≤ 2 ^ 56 → IsSavedGx at s → holds_by asked s.selector (waiting_entries s) ≡ true
+      → RoundTrips (gx_format_by asked) at s
+  pub same_bytes : (asked : Asked) (before : List ℕ) (s : GxState) → bytes_written (gx_format_by asked) before s ≡ bytes_written gx_format before s
   pub spelling : (at : ℕ) → OneSpelling gx_format at
+  pub spelling_by : (asked : Asked) (at : ℕ) → OneSpelling (gx_format_by asked) at

@@ -8,7 +8,7 @@ ghost use Rattle.gx_matrix.specs.CommandTable.{command_of};
 ghost use Rattle.gx_geometry.specs.States.{AreListsSince};
 ghost use Rattle.gx_fifo.specs.Entries.{begun, done_after, complete_command, asks_for_swap};
 ghost use Rattle.gx_fifo.specs.PackedWords.{word_taken, entry_added};
-ghost use Rattle.gx_fifo.specs.GxStates.{AddsOneVertex, IsGx, gx_at_boot, waiting_entries, shown_count, is_stalled, is_half_empty, gx_level, gx_status, display_control, read_port, gx_word, gx_kept, kept_port, gx_written, gx_finished, gx_swapped, disp3dcnt_written, gxstat_written, entries_came, due_after, engine_word, word_in, half_in};
+ghost use Rattle.gx_fifo.specs.GxStates.{AddsOneVertex, IsGx, gx_at_boot, waiting_entries, shown_of, stalls_by, half_empty_by, level_by, shown_count, is_stalled, is_half_empty, gx_level, gx_status, display_control, read_port, gx_word, gx_kept, kept_port, gx_written, gx_finished, gx_swapped, disp3dcnt_written, gxstat_written, entries_came, due_after, engine_word, word_in, half_in};
 
 mod saved;
 
@@ -18,7 +18,7 @@ use crate::ports::{GxPort, port_at};
 use ds_base::Tick;
 use gx_geometry::{Geometry, Lists};
 use gx_matrix::GeometryCommand;
-pub use saved::saved_laws;
+pub use saved::{Asked, saved_laws};
 use std::alloc::{AllocError, Global};
 use std::marker::Model;
 
@@ -133,6 +133,39 @@ fn half_in(numbers: &[i16], i: usize) -> u32
     }
 }
 
+/// GXSTAT's count, by how many entries wait.
+fn shown_of(waiting: u32) -> u32
+    ensures value { result ≡ shown_of waiting }
+    ensures within { result ≤ 256 }
+{
+    waiting.saturating_sub(4).min(256)
+}
+
+/// Whether so many hold up ARM9 and its DMA.
+fn stalls_by(waiting: u32) -> bool
+    ensures { result ≡ stalls_by waiting }
+{
+    waiting > 260
+}
+
+/// Whether GXSTAT's count is then below half of the FIFO.
+fn half_empty_by(waiting: u32) -> bool
+    ensures { result ≡ half_empty_by waiting }
+{
+    shown_of(waiting) < 128
+}
+
+/// The interrupt's level by GXSTAT's selector.
+fn level_by(selector: u32, waiting: u32) -> bool
+    ensures { result ≡ level_by selector waiting }
+{
+    match selector {
+        1 => half_empty_by(waiting),
+        2 => shown_of(waiting) == 0,
+        _ => false,
+    }
+}
+
 impl Gx {
     /// The engine at boot: nothing waits, and what is kept is 0. This alone takes memory.
     pub fn new(alloc: Global) -> Result<Gx, AllocError>
@@ -162,7 +195,7 @@ impl Gx {
     pub fn stalled(&self) -> bool
         ensures { result ≡ is_stalled self.now }
     {
-        self.waiting() > 260
+        stalls_by(self.waiting())
     }
 
     /// GXSTAT's count.
@@ -170,25 +203,21 @@ impl Gx {
         ensures value { result ≡ shown_count self.now }
         ensures within { result ≤ 256 }
     {
-        self.waiting().saturating_sub(4).min(256)
+        shown_of(self.waiting())
     }
 
     /// Whether GXSTAT's count is below 128, by which DMA of start 7 is triggered.
     pub fn half_empty(&self) -> bool
         ensures { result ≡ is_half_empty self.now }
     {
-        self.shown() < 128
+        half_empty_by(self.waiting())
     }
 
     /// The level of the geometry FIFO's interrupt, by GXSTAT's selector.
     pub fn level(&self) -> bool
         ensures { result ≡ gx_level self.now }
     {
-        match self.selector {
-            1 => self.half_empty(),
-            2 => self.shown() == 0,
-            _ => false,
-        }
+        level_by(self.selector, self.waiting())
     }
 
     /// When the head command is done, None exactly where none is under way.

@@ -19,6 +19,8 @@
 //! kept; a swap's parameter is there only while one waits; a command adds one vertex to the run at most. `pack` and `unpack`: the bytes of it
 //! all and what is read of bytes, by one format; `saved_laws`: the bytes at a tick that isn't after the due tick, and no more than 2^32 before
 //! it, are read as what they were, and bytes that are read are those of what is read; `bounds` has what that asks of each number beside `laws`.
+//! `unpack_by` also refuses a number of entries that isn't what the rest of a machine asks (`Asked`): never so many, the interrupt's level down, a
+//! stall, or the FIFO not half empty.
 //!
 //! Only tested, in `gx_tests`: ticks, packed words, GXSTAT, results, the stall and a swap, worked by hand, and that `Gx::new` succeeds with
 //! ample memory.
@@ -30,4 +32,4 @@ mod packed;
 mod ports;
 
 pub use entries::GxEntry;
-pub use gx::{Gx, saved_laws};
+pub use gx::{Asked, Gx, saved_laws};

@@ -1,10 +1,10 @@
 //! One channel in bytes.
 
-ghost use Rattle.std.specs.Prelude.{◌≡◌, ◌<◌, ◌≤◌, Some, IfOk, OnOk};
+ghost use Rattle.std.specs.Prelude.{◌≡◌, ◌<◌, ◌≤◌, ◌&&◌, Bool, Some, IfOk, OnOk};
 ghost use Rattle.ds_base.specs.Schedules.{IsEarly};
 ghost use Rattle.ds_dma.specs.Channels.{IsChannel, is_running};
 ghost use Rattle.ds_dma.specs.ChannelsKept.{channel_seen};
-ghost use Rattle.ds_dma.specs.Saved.{burst_left, channel_format, runs_by, units_left};
+ghost use Rattle.ds_dma.specs.Saved.{burst_left, channel_format_by, must_run, runs_by, units_left};
 ghost use Rattle.ds_state.specs.Formats.{bytes_written};
 ghost use Rattle.ds_state.specs.Reading.{GivesRead, read_format};
 
@@ -15,9 +15,9 @@ use ds_state::{Packer, Unpacked, Unpacker, holds};
 use std::alloc::AllocError;
 
 /// Puts a channel.
-#[tactic(auto, unfolding(crate::specs::Saved::channel_format))]
+#[tactic(auto, unfolding(crate::specs::Saved::channel_format_by))]
 pub fn put(into: &mut Packer, proc: Proc, which: u8, channel: Channel) -> Result<(), AllocError>
-    ensures { OnOk result (into.new ≡ bytes_written (channel_format proc which) into.old (channel_seen channel)) }
+    ensures { (must : Bool) → OnOk result (into.new ≡ bytes_written (channel_format_by proc which must) into.old (channel_seen channel)) }
 {
     into.put_u32(channel.sad)?;
     into.put_u32(channel.dad)?;
@@ -35,11 +35,17 @@ pub fn put(into: &mut Packer, proc: Proc, which: u8, channel: Channel) -> Result
     Ok(())
 }
 
-/// Takes a channel.
-#[tactic(auto, unfolding(crate::specs::Saved::channel_format))]
-pub fn take(from: &mut Unpacker, at: Tick, proc: Proc, which: u8) -> Result<Channel, Unpacked>
+/// Takes a channel, which must run where it is told to.
+#[tactic(auto, unfolding(crate::specs::Saved::channel_format_by))]
+pub fn take(
+    from: &mut Unpacker,
+    at: Tick,
+    proc: Proc,
+    which: u8,
+    must: bool,
+) -> Result<Channel, Unpacked>
     requires { IsEarly (Some at) }
-    ensures reads { GivesRead channel_seen result from.new (read_format (channel_format proc which) at.0 from.old) }
+    ensures reads { GivesRead channel_seen result from.new (read_format (channel_format_by proc which must) at.0 from.old) }
     ensures is { IfOk result (λ channel. IsChannel proc which (channel_seen channel)) }
     ensures early { IfOk result (λ channel. IsEarly channel.trigger) }
 {
@@ -57,7 +63,7 @@ pub fn take(from: &mut Unpacker, at: Tick, proc: Proc, which: u8) -> Result<Chan
     holds(has_burst(enabled, remaining, burst), offset)?;
     let offset = from.place();
     let running = from.take_flag()?;
-    holds(if running { enabled } else { burst == 0 }, offset)?;
+    holds(may_run(must, enabled, burst, running), offset)?;
     let trigger = from.take_earlier(running, at.0)?;
     Ok(Channel {
         sad,
@@ -87,4 +93,15 @@ fn has_burst(enabled: bool, units: u32, burst: u32) -> bool
     ensures { result ≡ burst_left enabled units 0 burst }
 {
     !enabled || (burst <= units && burst <= 112)
+}
+
+/// Whether it may say so of its running.
+fn may_run(must: bool, enabled: bool, burst: u32, running: bool) -> bool
+    ensures { result ≡ (must_run must running && runs_by enabled burst 0 running) }
+{
+    if running {
+        enabled
+    } else {
+        !must && burst == 0
+    }
 }

@@ -1,19 +1,56 @@
 //! The geometry engine and what waits for it in bytes.
 
-ghost use Rattle.std.specs.Prelude.{◌≡◌, ◌<◌, ◌^◌, is_some, true, false, IfOk, OnOk};
+ghost use Rattle.std.specs.Prelude.{◌≡◌, ◌<◌, ◌≤◌, ◌^◌, is_some, true, false, IfOk, OnOk};
 ghost use Rattle.ds_base.specs.Bits.{bit};
 ghost use Rattle.ds_state.specs.Formats.{bytes_written, flag_code, keeps_mask, number_code};
 ghost use Rattle.ds_state.specs.Reading.{GivesIn, GivesRead, read_code, read_format, ruled};
-ghost use Rattle.gx_fifo.specs.Entries.{complete_command};
-ghost use Rattle.gx_fifo.specs.Saved.{GxIsSaved, HasGxBounds, gx_format, may_wait};
+ghost use Rattle.gx_fifo.specs.Entries.{complete_command, most_entries};
+ghost use Rattle.gx_fifo.specs.Saved.{GxIsSaved, HasGxBounds, asks_nothing, count_by, gx_format, gx_format_by, holds_by, may_wait};
 
 use crate::entries::take_entries;
-use crate::gx::Gx;
+use crate::gx::{Gx, half_empty_by, level_by, stalls_by};
 use crate::packed::{Fifo, take_left};
 use ds_base::Tick;
 use ds_state::{Packer, Unpacked, Unpacker, holds};
 use gx_geometry::Geometry;
 use std::alloc::{AllocError, Global};
+
+/// What the rest of a machine asks of how many entries wait.
+#[derive(Clone, Copy)]
+pub struct Asked {
+    /// Never so many: the processor is halted, and one of its other interrupts would wake it.
+    pub wakes: bool,
+    /// The interrupt's level is down: the processor is halted, and would hear it.
+    pub hears: bool,
+    /// A stall: the processor's next step is late, and nothing else holds it.
+    pub late: bool,
+    /// The FIFO isn't half empty: a DMA channel waits for it to be so.
+    pub waits: bool,
+}
+
+impl Asked {
+    /// Nothing is asked.
+    pub fn nothing() -> Asked
+        ensures { result ≡ asks_nothing }
+    {
+        Asked {
+            wakes: false,
+            hears: false,
+            late: false,
+            waits: false,
+        }
+    }
+
+    /// Whether it holds with GXSTAT's selector and so many entries.
+    fn holds(self, selector: u32, waiting: u32) -> bool
+        ensures { result ≡ holds_by self selector waiting }
+    {
+        !(self.wakes
+            || (self.hears && level_by(selector, waiting))
+            || (self.late && !stalls_by(waiting))
+            || (self.waits && half_empty_by(waiting)))
+    }
+}
 
 /// The bits of DISP3DCNT that are kept beside the lists' overflow.
 const DISPLAY: u16 = 0x5FFF;
@@ -54,11 +91,22 @@ fn take_waiting(
     Ok(waits)
 }
 
+/// Takes how many entries wait: at most 324, and so many as what is asked holds with.
+fn take_count(from: &mut Unpacker, asked: Asked, selector: u8) -> Result<u16, Unpacked>
+    ensures reads { GivesRead (λ n. n) result from.new (ruled (count_by asked selector 0) from.old (read_code (number_code 2) from.old)) }
+    ensures most { IfOk result (λ n. n ≤ most_entries) }
+{
+    let offset = from.place();
+    let count = from.take_half_at_most(324)?;
+    holds(asked.holds(selector as u32, count as u32), offset)?;
+    Ok(count)
+}
+
 impl Gx {
     /// Puts the engine, and what waits for it. The error is want of memory.
-    #[tactic(auto, unfolding(crate::specs::Saved::gx_format))]
+    #[tactic(auto, unfolding(crate::specs::Saved::gx_format_by))]
     pub fn pack(&self, into: &mut Packer) -> Result<(), AllocError>
-        ensures { OnOk result (into.new ≡ bytes_written gx_format into.old self.now) }
+        ensures { (asked : Asked) → OnOk result (into.new ≡ bytes_written (gx_format_by asked) into.old self.now) }
     {
         self.engine.pack(into)?;
         into.put_u16(self.display as u16)?;
@@ -76,14 +124,27 @@ impl Gx {
     /// engine; other bits of DISP3DCNT than 0 to 12 and 14; a selector above 3; over 324 entries, or one whose code has no command; what is left
     /// of a packed word with no parameters left, or with more than its first command has; a due tick that isn't soon; and, told where it is said
     /// whether a swap waits, a due tick or a parameter of a swap that may not be there, or a due tick that isn't there.
-    #[tactic(auto, unfolding(crate::specs::Saved::gx_format))]
     pub fn unpack(alloc: Global, from: &mut Unpacker, at: Tick) -> Result<Gx, Unpacked>
         ensures { GivesIn (λ g. g) result from.new (read_format gx_format at.0 from.old) }
+    {
+        Gx::unpack_by(alloc, from, at, Asked::nothing())
+    }
+
+    /// Takes the same where the rest of a machine asks something of it: it is an error, too, where that doesn't hold, told where it is said how many
+    /// entries wait.
+    #[tactic(auto, unfolding(crate::specs::Saved::gx_format_by))]
+    pub fn unpack_by(
+        alloc: Global,
+        from: &mut Unpacker,
+        at: Tick,
+        asked: Asked,
+    ) -> Result<Gx, Unpacked>
+        ensures { GivesIn (λ g. g) result from.new (read_format (gx_format_by asked) at.0 from.old) }
     {
         let engine = Geometry::unpack(alloc, from, at)?;
         let display = take_display(from)?;
         let selector = from.take_at_most(3)?;
-        let count = from.take_half_at_most(324)?;
+        let count = take_count(from, asked, selector)?;
         let entries = take_entries(alloc, from, count, at.0)?;
         let packed = from.take_u32()?;
         let left = take_left(from, packed)?;

@@ -5,14 +5,14 @@ use super::fifo::{finish, write};
 use super::ports::{DISP3DCNT, GXFIFO, GXSTAT, MTX_IDENTITY, SWAP_BUFFERS};
 use ds_base::Tick;
 use ds_state::{Packer, Unpacked, Unpacker};
-use gx_fifo::Gx;
+use gx_fifo::{Asked, Gx};
 use std::alloc::{AllocError, Global};
 
 /// How many bytes were taken, where they are those of what is taken; or 10,000 and where a field fails.
-fn taken(alloc: Global, bytes: &[u8], at: u64) -> Result<u32, AllocError> {
+fn taken(alloc: Global, bytes: &[u8], at: u64, asked: Asked) -> Result<u32, AllocError> {
     let (some, _) = bytes.split_at(bytes.len().min(0x10_0000));
     let mut from = Unpacker::new(some);
-    match Gx::unpack(alloc, &mut from, Tick(at)) {
+    match Gx::unpack_by(alloc, &mut from, Tick(at), asked) {
         Ok(gx) => {
             let again = packed(alloc, &gx)?;
             let (front, _) = some.split_at(some.len().min(again.len()));
@@ -37,7 +37,7 @@ fn packed(alloc: Global, gx: &Gx) -> Result<Vec<u8>, AllocError> {
 type Row = (usize, u8, usize, u64, u32);
 
 /// The first row that doesn't come so, and what came.
-fn wrong(alloc: Global, gx: &Gx, rows: &[Row]) -> Result<(usize, u32), AllocError> {
+fn wrong(alloc: Global, gx: &Gx, asked: Asked, rows: &[Row]) -> Result<(usize, u32), AllocError> {
     let mut bytes = packed(alloc, gx)?;
     bytes.push(7)?;
     for (number, (at, byte, count, tick, wanted)) in rows.iter().enumerate() {
@@ -47,7 +47,7 @@ fn wrong(alloc: Global, gx: &Gx, rows: &[Row]) -> Result<(usize, u32), AllocErro
             bytes[*at] = *byte;
         }
         let (front, _) = bytes.split_at(bytes.len().min(*count));
-        let got = taken(alloc, front, *tick)?;
+        let got = taken(alloc, front, *tick, asked)?;
         if *at < bytes.len() {
             bytes[*at] = kept;
         }
@@ -201,7 +201,7 @@ fn what_waits_is_taken_back_from_its_bytes(rt: HostRuntime) -> Result<(), AllocE
     ];
     for (table, gx, bytes, rows) in tables.iter() {
         let same = ends_with(alloc, gx, bytes)?;
-        let (row, got) = wrong(alloc, gx, rows)?;
+        let (row, got) = wrong(alloc, gx, Asked::nothing(), rows)?;
         assert!(rt; same && row == rows.len(), "{table}, row {row}: {got}");
     }
     Ok(())
@@ -210,8 +210,82 @@ fn what_waits_is_taken_back_from_its_bytes(rt: HostRuntime) -> Result<(), AllocE
 #[test]
 fn a_full_list_is_taken_back_from_its_bytes(rt: HostRuntime) -> Result<(), AllocError> {
     let gx = full(rt.alloc())?;
-    let (row, got) = wrong(rt.alloc(), &gx, &OF_FULL)?;
+    let (row, got) = wrong(rt.alloc(), &gx, Asked::nothing(), &OF_FULL)?;
     assert!(rt; row == OF_FULL.len(), "row {row}: {got}");
+    Ok(())
+}
+
+/// So many entries, behind a swap, with GXSTAT's selector.
+fn so_many(alloc: Global, selector: u32, count: u32) -> Result<Gx, AllocError> {
+    let mut gx = Gx::new(alloc)?;
+    write(&mut gx, GXSTAT, selector << 30, 0);
+    write(&mut gx, SWAP_BUFFERS, 0, 0);
+    finish(&mut gx);
+    for _ in 0..count / 4 {
+        write(&mut gx, GXFIFO, 0x1515_1515, 0);
+    }
+    for _ in 0..count % 4 {
+        write(&mut gx, MTX_IDENTITY, 0, 0);
+    }
+    Ok(gx)
+}
+
+/// What is asked: never so many, the level down, a stall, not half empty.
+fn asked_by(which: u8) -> Asked {
+    let nothing = Asked::nothing();
+    match which {
+        0 => Asked {
+            wakes: true,
+            ..nothing
+        },
+        1 => Asked {
+            hears: true,
+            ..nothing
+        },
+        2 => Asked {
+            late: true,
+            ..nothing
+        },
+        _ => Asked {
+            waits: true,
+            ..nothing
+        },
+    }
+}
+
+/// What is asked, the selector, how many entries wait, and what comes of one change: 1 where all is taken, or where a field fails.
+#[rattlefmt::skip]
+const ASKED: [(u8, u32, u32, Row); 21] = [
+    // never so many, and told there: a later field is broken, too; an earlier one
+    (0, 0, 0, (0, 0, 9000, 9, 14_660)), (0, 0, 1, (4680, 2, 9000, 9, 14_660)),
+    (0, 0, 1, (4660, 1, 4661, 9, 14_660)), (0, 0, 1, (4659, 4, 9000, 9, 14_659)),
+    // the level, by each selector
+    (1, 0, 0, (0, 0, 9000, 9, 1)), (1, 3, 0, (0, 0, 9000, 9, 1)), (1, 2, 4, (0, 0, 9000, 9, 14_660)), (1, 2, 5, (0, 0, 9000, 9, 1)),
+    (1, 1, 131, (0, 0, 9000, 9, 14_660)), (1, 1, 132, (0, 0, 9000, 9, 1)), (1, 2, 4, (4662, 0, 9000, 9, 14_660)),
+    // a stall
+    (2, 0, 0, (0, 0, 9000, 9, 14_660)), (2, 0, 260, (0, 0, 9000, 9, 14_660)),
+    (2, 0, 261, (0, 0, 9000, 9, 1)), (2, 0, 260, (4662, 0, 9000, 9, 14_660)),
+    (2, 0, 324, (0, 0, 9000, 9, 1)),
+    // not half empty
+    (3, 0, 0, (0, 0, 9000, 9, 14_660)), (3, 0, 131, (0, 0, 9000, 9, 14_660)),
+    (3, 0, 132, (0, 0, 9000, 9, 1)), (3, 0, 131, (4662, 0, 9000, 9, 14_660)),
+    (3, 1, 260, (4662, 0, 9000, 9, 14_662)),
+];
+
+#[test]
+fn what_the_rest_asks_is_told_at_the_count(rt: HostRuntime) -> Result<(), AllocError> {
+    for (number, (which, selector, count, row)) in ASKED.iter().enumerate() {
+        let gx = so_many(rt.alloc(), *selector, *count)?;
+        let (at, byte, long, tick, wanted) = *row;
+        let wanted = if wanted == 1 {
+            5 * *count + 4676
+        } else {
+            wanted
+        };
+        let row = [(at, byte, long, tick, wanted)];
+        let (right, got) = wrong(rt.alloc(), &gx, asked_by(*which), &row)?;
+        assert!(rt; right == 1, "row {number}: {got}");
+    }
     Ok(())
 }
 

@@ -1,7 +1,7 @@
 //! Units in bytes: which bytes are read, that those of what is read are the same again, and where those that aren't read fail.
 
 use Comes::{Differs, Fails, Full, Takes};
-use Kind::{Channels, Cp, FourTimers, Port, Sides, Words};
+use Kind::{Channels, Cp, FourTimers, LateChannels, Port, Sides, SleepersWords, Words};
 use Proc::{Nine, Seven};
 use cp15_tcm::Cp15;
 use ds_base::{Proc, Tick};
@@ -18,6 +18,8 @@ use std::process::Abort;
 enum Kind {
     /// The interrupt words of a processor.
     Words(Proc),
+    /// Those of one that sleeps.
+    SleepersWords(Proc),
     /// The four timers of one.
     FourTimers,
     /// Both sides of the ways between the processors.
@@ -26,6 +28,8 @@ enum Kind {
     Cp,
     /// The DMA channels of a processor.
     Channels(Proc),
+    /// Those of one whose own step is late, so that a channel runs.
+    LateChannels(Proc),
     /// The card's port, with a file of four bytes.
     Port,
 }
@@ -57,10 +61,12 @@ fn put_again(
     let at = Tick(at.into());
     match kind {
         Words(proc) => Irq::unpack(from, at, proc)?.pack(into)?,
+        SleepersWords(proc) => Irq::unpack_by(from, at, proc, true)?.pack(into)?,
         FourTimers => Timers::unpack(from, at)?.pack(into)?,
         Sides => Ipc::unpack(alloc, from, at)?.pack(into)?,
         Cp => Cp15::unpack(from, at)?.pack(into)?,
         Channels(proc) => Dma::unpack(from, at, proc)?.pack(into)?,
+        LateChannels(proc) => Dma::unpack_by(from, at, proc, true)?.pack(into)?,
         Port => Card::unpack(from, at, &[1, 2, 3, 4])?.pack(into)?,
     }
     Ok(())
@@ -110,7 +116,7 @@ fn try_lines(
 const IRQ_BYTES: [u8; 9] = [1, 4, 0, 1, 0, 1, 0, 0, 0];
 
 /// Those of ARM9: IE has the interrupts that it has alone, and IF not that of the geometry FIFO, bit 21.
-const IRQ_LINES_OF_NINE: [Line; 15] = [
+const IRQ_LINES_OF_NINE: [Line; 17] = [
     (0, 0, 9, 0, Takes(9)),
     (0, 2, 9, 0, Fails(0)),
     (3, 0x2F, 9, 0, Takes(9)),
@@ -123,6 +129,8 @@ const IRQ_LINES_OF_NINE: [Line; 15] = [
     (7, 0xDF, 9, 0, Takes(9)),
     (7, 0x20, 9, 0, Fails(5)),
     (8, 0xFF, 9, 0, Takes(9)),
+    (5, 4, 9, 0, Takes(9)),
+    (7, 1, 9, 0, Takes(9)),
     (0, 1, 0, 0, Fails(0)),
     (0, 1, 4, 0, Fails(1)),
     (0, 1, 8, 0, Fails(5)),
@@ -130,6 +138,18 @@ const IRQ_LINES_OF_NINE: [Line; 15] = [
 
 /// Those of ARM7, which has not the interrupt of the geometry FIFO either.
 const IRQ_LINES_OF_SEVEN: [Line; 2] = [(3, 0xF, 9, 0, Takes(9)), (3, 0x2F, 9, 0, Fails(1))];
+
+/// A processor that sleeps has no bit in both; this is told at IF, also where IF has a bit that it never has.
+const IRQ_LINES_OF_SLEEPERS: [Line; 8] = [
+    (0, 1, 9, 0, Takes(9)),
+    (5, 0xFB, 9, 0, Takes(9)),
+    (5, 4, 9, 0, Fails(5)),
+    (7, 1, 9, 0, Fails(5)),
+    (7, 0x20, 9, 0, Fails(5)),
+    (1, 5, 9, 0, Fails(5)),
+    (4, 1, 9, 0, Fails(1)),
+    (5, 4, 8, 0, Fails(5)),
+];
 
 /// One that counts time from FF00h at tick 100, so that it is due at 612; one that counts up; one that is stopped; and one that is due at 628.
 const TIMER_BYTES: [u8; 52] = [
@@ -270,6 +290,38 @@ const DMA_LINES_OF_SEVEN: [Line; 2] = [
     (11, 0xB4, 160, 100, Fails(45)),
 ];
 
+/// Its channel 3 is enabled for one unit, and doesn't run, nor does another; the last unit was at tick 60, and its accesses waited 8 ticks.
+const DMA_BYTES_ARMED: [u8; 160] = [
+    0, 0, 0, 0, 0, 0, 0, 0, 0, 0, 0, 0, 0, 0, 0, 0, 0, 0, 0, 0, 0, 0, 0, 0, 0, 0, 0, 0, 0, 0, 0, 0,
+    0, 0, 0, 0, 0, 0, 0, 0, 0, 0, 0, 0, 0, 0, 0, 0, 0, 0, 0, 0, 0, 0, 0, 0, 0, 0, 0, 0, 0, 0, 0, 0,
+    0, 0, 0, 0, 0, 0, 0, 0, 0, 0, 0, 0, 0, 0, 0, 0, 0, 0, 0, 0, 0, 0, 0, 0, 0, 0, 0, 0, 0, 0, 0, 0,
+    0, 0, 0, 0, 0, 0, 0, 0, 0, 0, 0, 0, 0, 0, 0, 0, 0, 0, 0, 0, 0, 0, 0, 1, 0, 0, 0x80, 0, 0, 0, 0,
+    0, 0, 0, 0, 1, 0, 0, 0, 0, 0, 0, 0, 0, 0, 0, 0, 0, 0, 0, 0, 0, 0x3C, 0, 0, 0, 0, 0, 0, 0, 8, 0,
+    0, 0,
+];
+
+/// Of a processor that isn't late none need run; where channel 3 does it is due at 72, and one of ARM7's can't be due earlier.
+const DMA_LINES_ARMED: [Line; 3] = [
+    (139, 0, 160, 73, Takes(160)),
+    (139, 1, 160, 72, Takes(160)),
+    (157, 1, 160, 72, Fails(156)),
+];
+
+/// What comes of ARM9's that was due at 72, and of ARM7's.
+const DMA_LINES_HELD: [Line; 1] = [(139, 1, 160, 73, Takes(160))];
+
+const DMA_LINES_OVER: [Line; 2] = [(139, 1, 160, 73, Fails(156)), (139, 1, 159, 73, Fails(156))];
+
+/// Of one that is late one runs. This is told where channel 3 says so, whatever else breaks behind it.
+const DMA_LINES_LATE: [Line; 6] = [
+    (139, 1, 160, 72, Takes(160)),
+    (139, 0, 160, 72, Fails(139)),
+    (157, 1, 160, 72, Fails(139)),
+    (148, 0x49, 160, 72, Fails(139)),
+    (0, 0, 139, 72, Fails(139)),
+    (114, 0x10, 160, 72, Fails(111)),
+];
+
 /// A transfer of ARM9's of 128 words, of which 127 were taken; the last one is due at tick 140.
 const CARD_BYTES: [u8; 29] = [
     0, 0xC0, 0, 0x60, 0x34, 0x12, 5, 1, 0xB7, 0, 0, 0x80, 0x10, 0, 0, 0, 1, 0x7F, 0, 0, 0, 0x8C, 0,
@@ -374,6 +426,8 @@ fn units_are_taken_and_put_by_their_rules(rt: HostRuntime) -> Result<(), AllocEr
     let alloc = rt.alloc();
     try_lines(&rt, alloc, Words(Nine), &IRQ_BYTES, &IRQ_LINES_OF_NINE)?;
     try_lines(&rt, alloc, Words(Seven), &IRQ_BYTES, &IRQ_LINES_OF_SEVEN)?;
+    let sleepers = SleepersWords(Nine);
+    try_lines(&rt, alloc, sleepers, &IRQ_BYTES, &IRQ_LINES_OF_SLEEPERS)?;
     try_lines(&rt, alloc, FourTimers, &TIMER_BYTES, &TIMER_LINES)?;
     try_lines(&rt, alloc, Sides, &IPC_BYTES, &IPC_LINES)?;
     try_lines(&rt, alloc, Cp, &CP15_BYTES, &CP15_LINES)
@@ -383,7 +437,29 @@ fn units_are_taken_and_put_by_their_rules(rt: HostRuntime) -> Result<(), AllocEr
 fn channels_are_taken_and_put_by_their_rules(rt: HostRuntime) -> Result<(), AllocError> {
     let alloc = rt.alloc();
     try_lines(&rt, alloc, Channels(Nine), &DMA_BYTES, &DMA_LINES)?;
-    try_lines(&rt, alloc, Channels(Seven), &DMA_BYTES, &DMA_LINES_OF_SEVEN)
+    try_lines(&rt, alloc, Channels(Seven), &DMA_BYTES, &DMA_LINES_OF_SEVEN)?;
+    for proc in [Nine, Seven] {
+        let armed = Channels(proc);
+        try_lines(&rt, alloc, armed, &DMA_BYTES_ARMED, &DMA_LINES_ARMED)?;
+        let late = LateChannels(proc);
+        try_lines(&rt, alloc, late, &DMA_BYTES_ARMED, &DMA_LINES_LATE)?;
+    }
+    let late = LateChannels(Nine);
+    try_lines(&rt, alloc, late, &DMA_BYTES, &DMA_LINES)?;
+    try_lines(
+        &rt,
+        alloc,
+        Channels(Nine),
+        &DMA_BYTES_ARMED,
+        &DMA_LINES_HELD,
+    )?;
+    try_lines(
+        &rt,
+        alloc,
+        Channels(Seven),
+        &DMA_BYTES_ARMED,
+        &DMA_LINES_OVER,
+    )
 }
 
 #[test]

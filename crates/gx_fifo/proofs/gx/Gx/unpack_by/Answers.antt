@@ -2,7 +2,7 @@ use Rattle.std.proofs.Common.{◌≡◌, ◌∙◌, Bool, is_some, sym, ap, arit
 use Rattle.std.specs.Prelude.{◌&&◌, not}
 use Rattle.gx_fifo.specs.Entries.{complete_command}
 use Rattle.gx_fifo.proofs.SavedLaws.{due_there, may_be_due, may_be_none}
-use Rattle.gx_fifo.proofs.gx.Gx.unpack.Goals as goal
+use Rattle.gx_fifo.proofs.gx.Gx.unpack_by.Goals as goal
 
 pub invariant_of-result : goal.invariant_of-result
 invariant_of-result c =

@@ -3,8 +3,11 @@
 ghost use Rattle.std.specs.Prelude.{◌≡◌, ◌<◌, ◌≤◌, ◌+◌, ◌%◌, IfOk, slice_index, slice_set, length};
 ghost use Rattle.ds_base.specs.declared.memories.Width.TheVariants.{Half, Word};
 ghost use Rattle.ds_base.specs.Numbers.{zeroes, aligned_down, number_at, with_number};
+ghost use Rattle.ds_state.specs.Formats.{array};
+ghost use Rattle.ds_state.specs.Reading.{GivesIn, read_code};
 
 use ds_base::Width;
+use ds_state::{Unpacked, Unpacker};
 use std::alloc::{AllocError, Global};
 use std::marker::Model;
 
@@ -61,6 +64,15 @@ impl<const N: usize> Block<N> {
     {
         Ok(Block {
             bytes: zeroed(alloc, N)?,
+        })
+    }
+
+    /// Takes N bytes as they are. The error is want of memory, or where they begin that aren't all there.
+    pub fn take(alloc: Global, from: &mut Unpacker) -> Result<Block<N>, Unpacked>
+        ensures { GivesIn (λ b. b) result from.new (read_code (array N) from.old) }
+    {
+        Ok(Block {
+            bytes: from.take_bytes(alloc, N)?,
         })
     }
 

@@ -2,6 +2,7 @@
 
 ghost use Rattle.std.specs.Prelude.{◌≡◌, ◌<◌, ◌≤◌, ◌^◌, slice_index, length, false, true, ℕ, IfOk, IfSome, Some};
 ghost use Rattle.ds_base.specs.Memories.{memory_size};
+ghost use Rattle.ds_base.specs.declared.memories.Memory.TheVariants.{Main, Shared, Own7, Palette, Oam};
 ghost use Rattle.ds_base.specs.Numbers.{aligned_down, number_at, with_number};
 ghost use Rattle.ds_places.specs.AddressTables.{IsInside};
 ghost use Rattle.ds_map.specs.Maps.{blank_memories, cells_of, is_reached, map_seen, reached, reaches, unreached_oam, unreached_palette, unreached_wram, with_cells};
@@ -53,6 +54,40 @@ impl Map {
             palette: Block::new(alloc)?,
             oam: Block::new(alloc)?,
         })
+    }
+
+    /// The memories by their blocks.
+    pub fn of(
+        main: Block<MAIN_BYTES>,
+        shared: Block<SHARED_BYTES>,
+        wram: Block<OWN7_BYTES>,
+        palette: Block<PALETTE_BYTES>,
+        oam: Block<OAM_BYTES>,
+    ) -> Map
+        ensures { result ≡ record { main = main; shared = shared; wram = wram; palette = palette; oam = oam } }
+    {
+        Map {
+            main,
+            shared,
+            wram,
+            palette,
+            oam,
+        }
+    }
+
+    /// Does nothing; its contract states that each memory has its size.
+    pub fn laws(&self)
+        ensures main { length self.now.main ≡ memory_size Main }
+        ensures shared { length self.now.shared ≡ memory_size Shared }
+        ensures wram { length self.now.wram ≡ memory_size Own7 }
+        ensures palette { length self.now.palette ≡ memory_size Palette }
+        ensures oam { length self.now.oam ≡ memory_size Oam }
+    {
+        let _ = self.main.bytes();
+        let _ = self.shared.bytes();
+        let _ = self.wram.bytes();
+        let _ = self.palette.bytes();
+        let _ = self.oam.bytes();
     }
 
     /// The number at a cell of a memory, aligned down.

@@ -23,3 +23,6 @@ pub mod Passed
 pub mod GxApart
 pub mod Arms
 pub mod OwnWrites
+pub mod WithinOwn
+pub mod WithinPorts
+pub mod WithinEvents

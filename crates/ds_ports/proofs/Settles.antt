@@ -25,7 +25,7 @@ use Rattle.vram_banks.specs.Cells.{Banks}
 use Rattle.ds_ports.specs.Dues.{held_due, io_due, released_at}
 use Rattle.ds_ports.specs.Happenings.{IsIo, IsUnchanged, ReschedulesEach}
 use Rattle.ds_ports.specs.ProcessorIo.{blocks_processor, processor_io_triggered}
-use Rattle.ds_ports.specs.Io.{IoState, geometry_done, geometry_swapped, geometry_triggered, channel_comes_before, io_of, is_held, is_settled, level_told, release_kept, release_of, settled, stall_ends, tick_after, with_halted}
+use Rattle.ds_ports.specs.Io.{IoState, geometry_done, geometry_swapped, geometry_triggered, channel_comes_before, io_of, is_held, is_settled, level_told, release_by, release_kept, release_of, settled, stall_ends, tick_after, with_halted}
 use Rattle.ds_ports.proofs.Later.{ProcessorIoReschedules, processor_io_each, unchanged_same}
 use Rattle.ds_ports.proofs.HeldDues.{none_kept}
 use Rattle.ds_ports.proofs.Events.{Happens, happens_by, happens_on, own_is, unchanged_happens}
@@ -173,7 +173,7 @@ kept_tick released which (Some tick) = go (nat_lt tick.0 released) refl where
   go false e = (let same : max 0 tick.0 ≡ max released tick.0 = grind (arith, e) in ap (λ (t : ℕ). (let at : Option Tick = Some (record { 0 = t }) in at)) same)
 
 kept_due : (stalled : Bool) (released which channel : ℕ) (f : ℕ → Option Tick) (same : Bool) → (channel == which) ≡ same
-    → held_due stalled (if channel_comes_before (due_with which (f which)) released then released else 0) (if same then f channel else None)
+    → held_due stalled (release_by stalled (due_with which (f which)) released) (if same then f channel else None)
     ≡ held_due stalled released (if same then f channel else None)
 kept_due true released which channel f same e = refl
 kept_due false released which channel f false e = refl
@@ -261,8 +261,12 @@ kept_again : (due : Option DmaDue) (released : ℕ) (b : Bool) → channel_comes
 kept_again due released true e = ap (λ (b : Bool). if b then released else 0) e
 kept_again due released false e = none_kept (channel_comes_before due 0) 0 refl
 
+release_twice : (stalled : Bool) (due : Option DmaDue) (released : ℕ) → release_by stalled due (release_by stalled due released) ≡ release_by stalled due released
+release_twice true due released = refl
+release_twice false due released = kept_again due released (channel_comes_before due released) refl
+
 pub kept_twice : (u : IoState) → release_of (release_kept u) ≡ release_of u
-kept_twice u = kept_again (dma_due u.nine.dma) u.released (channel_comes_before (dma_due u.nine.dma) u.released) refl
+kept_twice u = release_twice (is_stalled u.gx) (dma_due u.nine.dma) u.released
 
 pub settles : (now : Tick) (u : IoState) → IsIo u → is_settled (settled now u) ≡ true
 settles now u all = go (is_half_empty u.gx) refl where

@@ -17,6 +17,7 @@ use Rattle.ds_runs.specs.declared.actors.Actor.TheVariants.{KeyScript, Video, Ti
 use Rattle.ds_timers.specs.Irqs.{irq_levelled}
 use Rattle.ds_timers.specs.Timing.{overflow_of}
 use Rattle.ds_ports.specs.ProcessorIo.{BeforeMove, blocks_processor, ProcessorIoState, processor_io_at_boot, processor_io_moved, processor_io_put_back, processor_io_raised, processor_io_triggered, keys_told}
+use Rattle.ds_ports.specs.declared.units.IoParts.{IoParts}
 use Rattle.gx_fifo.specs.GxStates.{GxState, gx_at_boot, gx_finished, gx_level, gx_swapped, is_half_empty, is_stalled}
 use Rattle.video2d.specs.Scans.{scan_due_tick}
 use Rattle.video2d.specs.Videos.{VideoState, unless_stop, video_after_event, video_at_boot, video_shown, video_stop}
@@ -28,7 +29,7 @@ use Rattle.vram_banks.specs.Cells.{Banks, blank_banks}
 -- the display; video memory with its controls; WRAMCNT, which shares out the shared work RAM (GBATEK, "DS Memory Control"); what passes between the
 -- processors; the keys that are pressed; the four words of DMA0FILL to DMA3FILL; the card; the divider and the square
 -- root unit; the geometry engine with what waits for it; the tick before which ARM9's DMA isn't due, which is the one after the geometry command that
--- ended the last stall while that holds a channel back, and else 0; and what each processor has of its own
+-- ended the last stall while that holds a channel back and no stall does, and else 0; and what each processor has of its own
 pub record IoState : Type 0 where
   pub video : VideoState
   pub vram : Banks
@@ -63,6 +64,24 @@ io_at_boot = record {
   released = 0;
   nine = processor_io_at_boot Nine;
   seven = processor_io_at_boot Seven;
+}
+
+-- the units by their parts
+abbrev pub io_of_parts : IoParts → IoState
+io_of_parts parts = record {
+  video = parts.video;
+  vram = parts.vram;
+  wramcnt = parts.wramcnt;
+  ipc = parts.ipc;
+  pressed = parts.pressed;
+  fill = parts.fill;
+  card = parts.card;
+  divider = parts.divider;
+  root = parts.root;
+  gx = parts.gx;
+  released = parts.released;
+  nine = parts.nine;
+  seven = parts.seven;
 }
 
 -- other banks of video memory, and another WRAMCNT
@@ -182,14 +201,17 @@ level_told u = record u { nine = record u.nine { irq = irq_levelled u.nine.irq (
 abbrev pub geometry_triggered : Tick → IoState → IoState
 geometry_triggered now u = if is_half_empty u.gx then record u { nine = processor_io_triggered u.nine causes.Geometry now } else u
 
--- The tick after a stall's end is kept while it holds back the channel of ARM9's that is due, which would come before it. So nothing is kept that has
--- no effect: the tick then is told by when the channel is due.
+-- The tick after a stall's end is kept while it holds back the channel of ARM9's that is due, which would come before it. While a stall holds them
+-- all none is kept, since its end makes it anew. So nothing is kept that has no effect: the tick then is told by when the channel is due.
 abbrev pub channel_comes_before : Option DmaDue → ℕ → Bool
 channel_comes_before None tick = false
 channel_comes_before (Some due) tick = nat_lt due.tick.0 tick
 
+abbrev pub release_by : Bool → Option DmaDue → ℕ → ℕ
+release_by stalled due released = if stalled then 0 else (if channel_comes_before due released then released else 0)
+
 abbrev pub release_of : IoState → ℕ
-release_of u = if channel_comes_before (dma_due u.nine.dma) u.released then u.released else 0
+release_of u = release_by (is_stalled u.gx) (dma_due u.nine.dma) u.released
 
 abbrev pub release_kept : IoState → IoState
 release_kept u = record u { released = release_of u }

@@ -10,3 +10,4 @@ pub mod Registers
 pub mod Touches
 pub mod Io
 pub mod Happenings
+pub mod Within

@@ -14,12 +14,12 @@ ghost use Rattle.ds_ports.specs.Guards.{is_overfull};
 ghost use Rattle.ds_ports.specs.Inside.{moves_dues};
 ghost use Rattle.ds_ports.specs.ProcessorIo.{before_move};
 ghost use Rattle.ds_ports.specs.Registers.{after_write, card_word_taken, meaning_of};
-ghost use Rattle.ds_ports.specs.Io.{channel_moved, channel_put_back, geometry_swapped, io_at_boot, io_event, io_of, is_settled, keys_pressed, settled, video_done, with_halted};
+ghost use Rattle.ds_ports.specs.Io.{channel_moved, channel_put_back, geometry_swapped, io_at_boot, io_event, io_of, io_of_parts, is_settled, keys_pressed, settled, video_done, with_halted};
 ghost use Rattle.video2d.specs.Videos.{video_answer};
 
 use crate::processor_io::Before;
 use crate::registers::Register;
-use crate::units::Units;
+use crate::units::{IoParts, Units};
 use ds_base::{Due, Proc, Space, Stop, Tick, Width};
 use ds_runs::Actor;
 use std::alloc::{AllocError, Global};
@@ -96,6 +96,22 @@ impl Io {
             first,
             settled: false,
         })
+    }
+
+    /// The units by their parts; what is kept of them is found.
+    pub fn of(parts: IoParts) -> Io
+        requires wramcnt { parts.wramcnt < 4 }
+        requires pressed { parts.pressed < 2 ^ 12 }
+        ensures { result ≡ io_of_parts parts }
+    {
+        let units = Units::of(parts);
+        let first = units.find_acting();
+        let settled = units.find_settled();
+        Io {
+            units,
+            first,
+            settled,
+        }
     }
 
     /// A write of video memory, at an address of one of its spaces.

@@ -24,11 +24,12 @@
 //! the display's, with palettes and objects: its answer (`answer`), and what it leaves, with the interrupts that it raises at both processors and the
 //! channels that it triggers (`state`); where it stops, all stays. `swap` is line 192's, and clause `lists` says of which commands its lists are.
 //! `settle` is what follows a step (`settled`): the level of geometry's interrupt, the channels that wait for it, and that a stall's end is forgotten
-//! where it holds back no channel; `is_settled` is whether it would change anything. `laws` tells what holds of timers, channels and what waits for
-//! geometry always.
+//! where it holds back no channel, or a new stall holds them all; `is_settled` is whether it would change anything. `laws` tells what holds of
+//! timers, channels and what waits for geometry always.
 //!
 //! `Io` is the `Units` with two things that are kept of them: the first that acts, and whether they are settled. It lends them, so that what
-//! they tell is asked of it by the same name; only what changes them is a call of its own, which keeps both so.
+//! they tell is asked of it by the same name; only what changes them is a call of its own, which keeps both so. `Io::of` and `ProcessorIo::of` make
+//! the whole of its parts.
 //!
 //! Only tested, in `ds_ports_tests`: each row's first and last byte and its neighbours; accesses across registers and of some bytes of one;
 //! each key, and KEYCNT with no key chosen; IF, IME and IPCSYNC by bytes; the FIFOs' directions, clears and interrupts; a DMA channel whose
@@ -47,4 +48,4 @@ pub use io::Io;
 pub use ports::{part, register_laws};
 pub use processor_io::{Before, ProcessorIo};
 pub use registers::{Register, Slot, slot_of};
-pub use units::Units;
+pub use units::{IoParts, Units};

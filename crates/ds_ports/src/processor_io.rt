@@ -118,6 +118,48 @@ impl ProcessorIo {
         }
     }
 
+    /// All of a processor's by its parts: interrupt words, timers, KEYCNT, whether it is halted, and channels.
+    pub fn of(irq: Irq, timers: Timers, keycnt: u16, halted: bool, dma: Dma) -> ProcessorIo
+        ensures { result ≡ record { irq = irq; timers = timers; keycnt = keycnt; halted = halted; dma = dma } }
+    {
+        ProcessorIo {
+            irq,
+            timers,
+            keycnt,
+            halted,
+            dma,
+            running: dma.running(),
+        }
+    }
+
+    /// The interrupt words.
+    pub fn irq(&self) -> &Irq
+        ensures { result.now ≡ self.now.irq }
+    {
+        &self.irq
+    }
+
+    /// The timers.
+    pub fn timers(&self) -> &Timers
+        ensures { result.now ≡ self.now.timers }
+    {
+        &self.timers
+    }
+
+    /// KEYCNT.
+    pub fn keycnt(&self) -> u16
+        ensures { result ≡ self.now.keycnt }
+    {
+        self.keycnt
+    }
+
+    /// The DMA channels.
+    pub fn dma(&self) -> &Dma
+        ensures { result.now ≡ self.now.dma }
+    {
+        &self.dma
+    }
+
     /// Raises bits of IF.
     #[inline(always)]
     pub fn raise(&mut self, bits: u32)
@@ -272,13 +314,6 @@ impl ProcessorIo {
     {
         self.timers
             .set_control(which as u8, (value % 0x1_0000) as u16, now);
-    }
-
-    /// KEYCNT.
-    pub fn keycnt(&self) -> u32
-        ensures { result ≡ self.now.keycnt }
-    {
-        self.keycnt as u32
     }
 
     /// Raises the keys' interrupt, where KEYCNT's condition holds.

@@ -8,7 +8,10 @@ ghost use Rattle.video2d.specs.DisplayRegisters.{control_registers, drawing_regi
 ghost use Rattle.video2d.specs.declared.engines.Engine.TheVariants.{A, B};
 
 use ds_base::Proc;
-use video2d::{DisplayRow, Engine, control_row_at, drawing_row_at, engine_row_at, output_row_at};
+use video2d::{
+    DisplayRegister, DisplayRow, Engine, control_row_at, drawing_row_at, engine_row_at,
+    output_row_at,
+};
 
 /// A register, by GBATEK's name ("DS I/O Maps"). Those of one name are told apart by a `Slot`'s number.
 #[derive(Clone, Copy, PartialEq, Eq)]
@@ -259,8 +262,8 @@ fn status(at: u32) -> Option<Slot>
     ensures { result ≡ slot_among status_rows at }
 {
     match at {
-        0x004..=0x005 => halves(Register::DisplayHalf, 0x004, at), // DISPSTAT
-        0x006..=0x007 => halves(Register::DisplayHalf, 0x006, at), // VCOUNT
+        0x004..=0x005 => in_display_row(0, DisplayRegister::Dispstat.row(), at),
+        0x006..=0x007 => in_display_row(0, DisplayRegister::Vcount.row(), at),
         _ => None,
     }
 }
@@ -447,7 +450,7 @@ fn power(proc: Proc, at: u32) -> Option<Slot>
 {
     match proc {
         Proc::Nine => match at {
-            0x304..=0x305 => halves(Register::DisplayHalf, 0x304, at), // POWCNT1
+            0x304..=0x305 => in_display_row(0, DisplayRegister::Powcnt1.row(), at),
             _ => None,
         },
         Proc::Seven => match at {

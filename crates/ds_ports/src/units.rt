@@ -3,12 +3,12 @@
 //! `dues` tells when they are due, `events` what happens then; `values` is what each register reads and keeps, `often` those that are read
 //! most, `writes` what a write does.
 
-ghost use Rattle.std.specs.Prelude.{◌≡◌, ◌<◌, ◌^◌, true, IfOk, Some};
+ghost use Rattle.std.specs.Prelude.{◌≡◌, ◌<◌, ◌^◌, ℕ, true, IfOk, Some, length, slice_index};
 ghost use Rattle.ds_base.specs.Schedules.{IsEarly};
 ghost use Rattle.gx_geometry.specs.States.{AreListsSince};
 ghost use Rattle.vram_banks.specs.Cells.{vram_written};
 ghost use Rattle.ds_ports.specs.Happenings.{IsIo};
-ghost use Rattle.ds_ports.specs.Io.{both_raised, geometry_swapped, io_at_boot, io_of, is_held, keys_pressed, with_halted};
+ghost use Rattle.ds_ports.specs.Io.{both_raised, geometry_swapped, io_at_boot, io_of, io_of_parts, is_held, keys_pressed, with_halted};
 
 mod dues;
 mod events;
@@ -73,7 +73,72 @@ impl Model for Units {
     ghost invariant = { λ u. (u.wramcnt < 4) × (u.pressed < 2 ^ 12) };
 }
 
+/// The units by their parts: each of them, WRAMCNT, the keys that are pressed, the words of DMA0FILL to DMA3FILL, the tick before which ARM9's
+/// channels aren't due, and what each processor has of its own.
+#[derive(Drop)]
+pub struct IoParts {
+    /// The display.
+    pub video: Video,
+    /// Video memory.
+    pub vram: Vram,
+    /// What WRAMCNT keeps, below 4.
+    pub wramcnt: u8,
+    /// What passes between the processors.
+    pub ipc: Ipc,
+    /// A bit for each key that is pressed, below 2^12.
+    pub pressed: u16,
+    /// The words of DMA0FILL to DMA3FILL.
+    pub fill: [u32; 4],
+    /// The card.
+    pub card: Card,
+    /// The divider.
+    pub divider: Divider,
+    /// The square root unit.
+    pub root: Root,
+    /// Geometry with what waits for it.
+    pub gx: Gx,
+    /// The tick after the geometry command that ended the last stall, while it holds a channel of ARM9's back; else 0.
+    pub released: u64,
+    /// What ARM9 has of its own.
+    pub nine: ProcessorIo,
+    /// What ARM7 has of its own.
+    pub seven: ProcessorIo,
+}
+
+/// Four words as they are.
+fn four_words(words: [u32; 4]) -> [u32; 4]
+    ensures value { result ≡ words }
+    ensures four { length result ≡ 4 }
+    ensures words { (i : ℕ) → slice_index result i < 2 ^ 32 }
+{
+    words
+}
+
 impl Units {
+    /// The units by their parts.
+    pub fn of(parts: IoParts) -> Units
+        requires wramcnt { parts.wramcnt < 4 }
+        requires pressed { parts.pressed < 2 ^ 12 }
+        ensures { result ≡ io_of_parts parts }
+    {
+        let fill = parts.fill;
+        Units {
+            video: parts.video,
+            vram: parts.vram,
+            wramcnt: parts.wramcnt,
+            ipc: parts.ipc,
+            pressed: parts.pressed,
+            fill,
+            card: parts.card,
+            divider: parts.divider,
+            root: parts.root,
+            gx: parts.gx,
+            released: parts.released,
+            nine: parts.nine,
+            seven: parts.seven,
+        }
+    }
+
     /// The units at boot.
     pub fn new(alloc: Global) -> Result<Units, AllocError>
         ensures { IfOk result (λ io. io ≡ io_at_boot) }
@@ -146,6 +211,37 @@ impl Units {
         ensures { result.now ≡ self.now.card }
     {
         &self.card
+    }
+
+    /// The divider.
+    pub fn divider(&self) -> &Divider
+        ensures { result.now ≡ self.now.divider }
+    {
+        &self.divider
+    }
+
+    /// The square root unit.
+    pub fn root(&self) -> &Root
+        ensures { result.now ≡ self.now.root }
+    {
+        &self.root
+    }
+
+    /// A bit for each key that is pressed.
+    pub fn pressed(&self) -> u16
+        ensures value { result ≡ self.now.pressed }
+        ensures within { result < 2 ^ 12 }
+    {
+        self.pressed
+    }
+
+    /// The words of DMA0FILL to DMA3FILL.
+    pub fn fill(&self) -> [u32; 4]
+        ensures value { result ≡ self.now.fill }
+        ensures four { length result ≡ 4 }
+        ensures words { (i : ℕ) → slice_index result i < 2 ^ 32 }
+    {
+        four_words(self.fill)
     }
 
     /// A write of video memory, at an address of one of its spaces.

@@ -80,15 +80,19 @@ impl Units {
             && self.release() == self.released
     }
 
-    /// What is kept of the last stall's end: the tick after it while it holds back the channel of ARM9's that is due, and else 0.
+    /// What is kept of the last stall's end: the tick after it while it holds back the channel of ARM9's that is due and no stall does, and else 0.
     #[tactic(auto, using(crate::proofs::HeldDues::none_kept))]
     fn release(&self) -> u64
         ensures { result ≡ release_of self.now }
     {
-        if self.released != 0 && self.nine.is_due_before(self.released) {
-            return self.released;
+        if self.released == 0 || self.gx.stalled() {
+            return 0;
         }
-        0
+        if self.nine.is_due_before(self.released) {
+            self.released
+        } else {
+            0
+        }
     }
 
     /// After a step at a tick: the level of geometry's interrupt is told as it is, the channels are triggered that wait for geometry, where its

@@ -54,7 +54,7 @@ status_keeps arch at n is = is_equal _ _ is
 saved_is : (arch : Arch) (xs : List ℕ) (n at : ℕ) → length xs ≡ n → at < n → All (IsStatus arch) xs → IsStatus arch (slice_index xs at)
 saved_is arch xs n at long lt all = all at 0 (omega (arith, long, lt))
 
-registers_stand : (arch : Arch) (at : ℕ) (s : RegisterState) → AreRegisters s → HasStatuses arch s → StandsFor (registers_format arch) at s
+pub registers_stand : (arch : Arch) (at : ℕ) (s : RegisterState) → AreRegisters s → HasStatuses arch s → StandsFor (registers_format arch) at s
 unfolding registers_format
 registers_stand arch at s are has =
     let thirty = are.thirty in

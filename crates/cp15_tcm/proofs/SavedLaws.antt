@@ -18,7 +18,7 @@ cp15_exact at = λ control _ rule dtcm _ _ itcm _ _. (refl, (refl, (control_agai
 within : (v mask : ℕ) → bit_and v mask ≡ v → v ≤ mask
 within v mask kept = subst (λ (x : ℕ). x ≤ mask) kept (and_le_r v mask)
 
-cp15_stands : (at : ℕ) (s : Cp15State) → IsCp15 s → StandsFor cp15_format at s
+pub cp15_stands : (at : ℕ) (s : Cp15State) → IsCp15 s → StandsFor cp15_format at s
 unfolding cp15_format
 cp15_stands at s is =
     let dtcm = is_equal _ _ is.dtcm in let itcm = is_equal _ _ is.itcm in

@@ -52,7 +52,7 @@ says_them nine seven romctrl command (suc zero) taken word at due begins takes c
 says_them nine seven romctrl command (suc (suc zero)) taken word at due begins takes comes = record { starter = refl; taken = refl; due = next_again word due }
 says_them nine seven romctrl command (suc (suc (suc n))) taken word at due begins takes comes = absurd (too_great command n at begins)
 
-card_exact : (file : List ℕ) (at : ℕ) → IsExact (card_format file) at
+pub card_exact : (file : List ℕ) (at : ℕ) → IsExact (card_format file) at
 unfolding card_format
 card_exact file at = λ nine _ _ seven _ _ romctrl _ _ command _ _ starter _ begins taken _ takes due _ comes.
     (let says = says_them nine seven romctrl command starter taken (card_word file command taken) at due begins takes comes in
@@ -164,7 +164,7 @@ auxspicnt_holds at port keeps = keeps.kept
 romctrl_holds : (at : ℕ) (s : CardState) → IsCard s → keeps_romctrl at s.romctrl ≡ true
 romctrl_holds at s is = (let ready = is.ready_bit in let busy = is.busy_bit in grind (arith, rules, ready, busy))
 
-card_stands : (file : List ℕ) (at : ℕ) (s : CardState) → at ≤ 2 ^ 56 → IsCardAt file at s → StandsFor (card_format file) at s
+pub card_stands : (file : List ℕ) (at : ℕ) (s : CardState) → at ≤ 2 ^ 56 → IsCardAt file at s → StandsFor (card_format file) at s
 unfolding card_format
 card_stands file at s early is =
     let holds = holds_by file at s s.transfer is.card.transfer is.word in

@@ -46,7 +46,7 @@ side_exact : (at : ℕ) → IsExact side_format at
 unfolding side_format
 side_exact at = λ passed _ _ sync _ _ control _ rule last _ _ count _ _. (word_exact at, λ words long _. (let again = control_again control rule in search rules))
 
-ipc_exact : (at : ℕ) → IsExact ipc_format at
+pub ipc_exact : (at : ℕ) → IsExact ipc_format at
 unfolding ipc_format
 ipc_exact at = (side_exact at, λ nine _. (side_exact at, λ seven _. (refl, (refl, tt))))
 
@@ -94,7 +94,7 @@ side_stands at s is =
 crossed : (own other : Side) → IsSide own → IsSide other → IsSide (with_words own other.words)
 crossed own other is there = record { at_most = there.at_most; words = there.words; passed = is.passed; last = is.last }
 
-ipc_stands : (at : ℕ) (s : IpcState) → AreSides s → StandsFor ipc_format at s
+pub ipc_stands : (at : ℕ) (s : IpcState) → AreSides s → StandsFor ipc_format at s
 unfolding ipc_format
 ipc_stands at s are =
     ((side_stands at _ (crossed s.nine s.seven are.nine are.seven), (side_stands at _ (crossed s.seven s.nine are.seven are.nine), tt)), refl)

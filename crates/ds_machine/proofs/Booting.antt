@@ -92,6 +92,14 @@ none_steps : (file : List ℕ) (keys : List KeyLine) (proc : Proc) → (processo
 none_steps file keys Nine = ap (λ (p : ProcessorState). p.steps) (booted_stays file keys).nine
 none_steps file keys Seven = ap (λ (p : ProcessorState). p.steps) (booted_stays file keys).seven
 
+due_at_boot : (file : List ℕ) (keys : List KeyLine) (proc : Proc) → (processor_of (machine_booted file keys) proc).due ≡ 0
+due_at_boot file keys Nine = ap (λ (p : ProcessorState). p.due) (booted_stays file keys).nine
+due_at_boot file keys Seven = ap (λ (p : ProcessorState). p.due) (booted_stays file keys).seven
+
+-- and each processor is due at once
+pub booted_due : (s : MachineState) (keys : List KeyLine) → s ≡ machine_booted s.file keys → (proc : Proc) → (processor_of s proc).due ≡ 0
+booted_due s keys is proc = ap (λ (m : MachineState). (processor_of m proc).due) is ∙ due_at_boot s.file keys proc
+
 none_events : (file : List ℕ) (keys : List KeyLine) → (machine_booted file keys).events ≡ 0
 none_events file keys = (booted_stays file keys).events
 

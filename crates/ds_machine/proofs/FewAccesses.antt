@@ -53,7 +53,7 @@ at_most : (b : Bool) (r count : ℕ) (rest : List ℕ) → length rest ≤ count
 at_most true r count rest h = omega (arith, h)
 at_most false r count rest h = omega (arith, h)
 
-listed_within : (count r list : ℕ) → length (listed_from count r list) ≤ count
+pub listed_within : (count r list : ℕ) → length (listed_from count r list) ≤ count
 unfolding listed_from
 listed_within zero r list = omega arith
 listed_within (suc count) r list = at_most (bit r list) r count (listed_from count (r + 1) list) (listed_within count (r + 1) list)

@@ -1,4 +1,5 @@
 use Rattle.std.proofs.Common.{ℕ, ◌≡◌, ◌≤◌, ◌^◌, inl, inr, Bool, true, false, true≢false, if◌then◌else◌, List, Option, Some, None, refl, sym, ◌∙◌, ap, subst, arith, []}
+use Rattle.arm_core.specs.Saved.{AreRegisters}
 use Rattle.ds_base.specs.declared.processors.Proc.{Proc}
 use Rattle.ds_base.specs.declared.processors.Proc.TheVariants.{Nine, Seven}
 use Rattle.ds_base.specs.declared.ticks.Tick.{Tick}
@@ -10,6 +11,7 @@ use Rattle.ds_runs.specs.declared.actors.Actor as actor
 use Rattle.ds_runs.specs.declared.actors.Actor.TheVariants.{KeyScript, Card, Dma, Processor}
 use Rattle.ds_base.specs.declared.left_out.LeftOut.{LeftOut}
 use Rattle.ds_machine.specs.Acting.{acting_dues}
+use Rattle.ds_machine.specs.Back.{HasMachineBounds}
 use Rattle.ds_machine.specs.Channels.{one_event}
 use Rattle.ds_machine.specs.Counting.{RunsWithSome, last_limit}
 use Rattle.ds_machine.specs.Lagging as lagging
@@ -279,3 +281,25 @@ steps_keep_file rank s = elim (true_or_false (is_card (actor_of rank))) [
       subst (λ (a : actor.Actor). (left_by (awake due (step_by rank a s))).file ≡ s.file) (sym (card_there (actor_of rank) card)) (card_keeps rank due s))
   | inr other ↦ kept_put s.file (reference_step rank s) (reference_put s.file rank s other)
 ]
+
+-- what each number has is the same with another file
+pub bounds_put : (file : List ℕ) (s : MachineState) → HasMachineBounds s → HasMachineBounds (with_file file s)
+bounds_put file s has = record {
+  registers = by_proc;
+  statuses = statuses_put file s has.statuses;
+  cp15 = has.cp15;
+  sizes = record {
+    main = has.sizes.main;
+    shared = has.sizes.shared;
+    wram = has.sizes.wram;
+    itcm = has.sizes.itcm;
+    dtcm = has.sizes.dtcm;
+    palette = has.sizes.palette;
+    oam = has.sizes.oam;
+    vram = has.sizes.vram;
+  };
+  units = has.units;
+} where
+  by_proc : (proc : Proc) → AreRegisters (processor_of (with_file file s) proc).registers
+  by_proc Nine = has.registers Nine
+  by_proc Seven = has.registers Seven

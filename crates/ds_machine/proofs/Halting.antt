@@ -60,7 +60,7 @@ video_still : (s : MachineState) → Happens (scan_due_tick s.io.video.scan) s.i
 video_still s h Nine = inl (h.halted Nine, refl)
 video_still s h Seven = inl (h.halted Seven, refl)
 
-event_due : (a : actor.Actor) (s : MachineState) (proc : Proc) → (processor_of (after_event a s) proc).due ≡ (processor_of s proc).due
+pub event_due : (a : actor.Actor) (s : MachineState) (proc : Proc) → (processor_of (after_event a s) proc).due ≡ (processor_of s proc).due
 event_due a s Nine = refl
 event_due a s Seven = refl
 
@@ -84,7 +84,7 @@ unit_own_still : (proc : Proc) (now : Tick) (unit : DmaUnit) (s : MachineState) 
 unit_own_still Nine now unit s = inr (λ h. none_past (is_halted (machine_after_unit Nine now unit s) Nine) _ h)
 unit_own_still Seven now unit s = inr (λ h. none_past (is_halted (machine_after_unit Seven now unit s) Seven) _ h)
 
-unit_other_due : (proc : Proc) (now : Tick) (unit : DmaUnit) (s : MachineState)
+pub unit_other_due : (proc : Proc) (now : Tick) (unit : DmaUnit) (s : MachineState)
     → (processor_of (machine_after_unit proc now unit s) (other_proc proc)).due ≡ (processor_of s (other_proc proc)).due
 unit_other_due Nine now unit s = refl
 unit_other_due Seven now unit s = refl
@@ -96,7 +96,7 @@ gone_own Nine m (Halted clocks) took h = refl
 gone_own Seven m (Halted clocks) took h = refl
 gone_own proc m (Left stop) took h = absurd took
 
-gone_other : (proc : Proc) (m : MachineState) (came : arm.Stepped)
+pub gone_other : (proc : Proc) (m : MachineState) (came : arm.Stepped)
     → (is_halted (gone_by proc came m) (other_proc proc) ≡ is_halted m (other_proc proc)) × (processor_of (gone_by proc came m) (other_proc proc) ≡ processor_of m (other_proc proc))
 gone_other Nine m (Cost clocks) = (refl, refl)
 gone_other Seven m (Cost clocks) = (refl, refl)
@@ -157,7 +157,7 @@ ended_still tick s still =
 
 -- ---- the law
 
-step_still : (s next : MachineState) (tick : Tick) (rank : ℕ) (outs : List Shown) → HasSoundParts s → IsLeast (dues_of s) tick rank → reference_step rank s ≡ Makes next outs
+pub step_still : (s next : MachineState) (tick : Tick) (rank : ℕ) (outs : List Shown) → HasSoundParts s → IsLeast (dues_of s) tick rank → reference_step rank s ≡ Makes next outs
     → IsStill s → KeepsNoMore next
 step_still s next tick rank outs sound least h still =
     let st = steps_here s tick rank sound least in

@@ -26,7 +26,7 @@ use Rattle.cp15_tcm.specs.declared.answers.Tcm.{Tcm}
 use Rattle.cp15_tcm.specs.declared.answers.Tcm.TheVariants.{Dtcm, Itcm, Past}
 use Rattle.ds_dma.specs.Channels.{ChannelState, is_running, is_triggered}
 use Rattle.ds_dma.specs.Controls.{is_enabled, waits_for}
-use Rattle.ds_dma.specs.States.{DmaState, awaits_geometry, channel_at}
+use Rattle.ds_dma.specs.States.{DmaState, awaits_geometry, channel_at, dma_due}
 use Rattle.ds_dma.specs.declared.channels.Unit.{Unit as DmaUnit}
 use Rattle.ds_card.specs.Cards.{card_after_event, card_due, card_starter, event_readies}
 use Rattle.ds_dma.specs.declared.controls.Cause.TheVariants as causes
@@ -40,7 +40,7 @@ use Rattle.ds_places.specs.AddressTables.{place_of}
 use Rattle.ds_places.specs.declared.kinds.Place.{Place}
 use Rattle.ds_places.specs.declared.kinds.Place.TheVariants.{Banks, Cell, Nothing, Port, Rom}
 use Rattle.ds_ports.specs.Dues.{io_due}
-use Rattle.ds_ports.specs.Io.{IoState, both_raised, card_done_at, channels_triggered, io_event, keys_pressed, level_told, release_kept, settled, shown_to_others, starter_told, video_done, with_gx}
+use Rattle.ds_ports.specs.Io.{IoState, both_raised, card_done_at, channels_triggered, io_event, keys_pressed, level_told, release_by, release_kept, settled, shown_to_others, starter_told, video_done, with_gx}
 use Rattle.ds_ports.specs.ProcessorIo.{processor_io_triggered}
 use Rattle.ds_ports.proofs.Arms.{ArmsNoMore, KeepsControls, armed, arms_by, arms_kept, arms_same, arms_then, keeps_same, triggered_keeps}
 use Rattle.ds_ports.proofs.GxApart.{channel_due_apart, event_apart, video_apart}
@@ -532,10 +532,13 @@ room_none tick false u four none = refl
 pub settled_told : (tick : Tick) (u : IoState) → length u.nine.dma.channels ≡ 4 → any_armed u.nine.dma ≡ false → settled tick u ≡ release_kept (level_told u)
 settled_told tick u four none = ap release_kept (room_none tick (is_half_empty u.gx) (level_told u) four (none_awaits u.nine.dma none))
 
+kept_so : (g : GxState) (u : IoState) → is_stalled g ≡ is_stalled u.gx → release_kept (with_gx g u) ≡ with_gx g (release_kept u)
+kept_so g u stalls = ap (λ (stalled : Bool). (let kept : IoState = record u { gx = g; released = release_by stalled (dma_due u.nine.dma) u.released } in kept)) stalls
+
 settled_so : (tick : Tick) (g : GxState) (u : IoState) → length u.nine.dma.channels ≡ 4 → any_armed u.nine.dma ≡ false → g.selector ≡ 0 → u.gx.selector ≡ 0
-    → settled tick (with_gx g u) ≡ with_gx g (settled tick u)
-settled_so tick g u four none here there =
-    settled_told tick (with_gx g u) four none ∙ ap release_kept (level_so g u here there) ∙ ap (λ (x : IoState). with_gx g x) (sym (settled_told tick u four none))
+    → is_stalled g ≡ is_stalled u.gx → settled tick (with_gx g u) ≡ with_gx g (settled tick u)
+settled_so tick g u four none here there stalls =
+    settled_told tick (with_gx g u) four none ∙ ap release_kept (level_so g u here there) ∙ kept_so g (level_told u) stalls ∙ ap (λ (x : IoState). with_gx g x) (sym (settled_told tick u four none))
 
 goes_so : (proc : Proc) (tick : Tick) (g : GxState) (m : MachineState) (b : Bool)
     → (if b then goes_on proc tick (late_put g m) else late_put g m) ≡ late_put g (if b then goes_on proc tick m else m)
@@ -548,11 +551,11 @@ wakes_so Nine tick g m = goes_so Nine tick g m (wakes m Nine)
 wakes_so Seven tick g m = goes_so Seven tick g m (wakes m Seven)
 
 pub ended_late : (tick : Tick) (g : GxState) (m : MachineState) → length m.io.nine.dma.channels ≡ 4 → any_armed m.io.nine.dma ≡ false → m.io.gx.selector ≡ 0 → g.selector ≡ 0
-    → ended tick (late_put g m) ≡ late_put g (ended tick m)
+    → is_stalled g ≡ is_stalled m.io.gx → ended tick (late_put g m) ≡ late_put g (ended tick m)
 unfolding ended
-ended_late tick g m four none there here =
+ended_late tick g m four none there here stalls =
     let rest = machine_settled tick m in
-    ap (λ (u : IoState). woken tick (with_io (late_put g m) u)) (settled_so tick g m.io four none here there)
+    ap (λ (u : IoState). woken tick (with_io (late_put g m) u)) (settled_so tick g m.io four none here there stalls)
     ∙ ap (woken_one Seven tick) (wakes_so Nine tick g rest)
     ∙ wakes_so Seven tick g (woken_one Nine tick rest)
 

@@ -233,7 +233,8 @@ module _ (s late : MachineState) (r : ℕ) (t u : Tick) (b : StepsBeforeGeometry
     own_after =
         let q = quiet_parts s.io quiet in
         let made : ended t (late_put g k.made) ≡ late_put g next =
-        ended_late t g k.made k.parts.io.nine.dma.four k.made_arms (ap (λ (x : GxState). x.selector) k.made_gx ∙ q.selector) leaves.selector ∙ ap (late_put g) k.ended_so in
+        ended_late t g k.made k.parts.io.nine.dma.four k.made_arms (ap (λ (x : GxState). x.selector) k.made_gx ∙ q.selector) leaves.selector
+        (leaves.free ∙ sym (ap (λ (x : GxState). is_stalled x) k.made_gx ∙ q.free)) ∙ ap (late_put g) k.ended_so in
         there (Makes k.made outs) k.took ∙ ap (λ (m : MachineState). (let step : MachineStep MachineState Shown LeftOut = Makes m outs in step)) made
 
     still_quiet : is_quiet next.io ≡ true

@@ -19,7 +19,7 @@ use Rattle.arm_words.specs.declared.instructions.Instr.{Instr}
 use Rattle.cp15_tcm.specs.TightlyCoupled.{tcm_of}
 use Rattle.cp15_tcm.specs.declared.answers.Tcm.{Tcm}
 use Rattle.cp15_tcm.specs.declared.answers.Tcm.TheVariants.{Itcm, Dtcm, Past}
-use Rattle.ds_dma.specs.States.{awaits_geometry, channel_due}
+use Rattle.ds_dma.specs.States.{awaits_geometry, channel_due, dma_due}
 use Rattle.ds_map.specs.Accesses.{fetched_at, map_fetched}
 use Rattle.ds_map.specs.Maps.{MapState}
 use Rattle.ds_map.specs.Views.{NineReach, nine_memory, tcm_fetched}
@@ -27,7 +27,7 @@ use Rattle.ds_places.specs.AddressTables.{place_of}
 use Rattle.ds_places.specs.declared.kinds.Place.{Place}
 use Rattle.ds_places.specs.declared.kinds.Place.TheVariants.{Cell, Banks, Port, Rom, Nothing}
 use Rattle.ds_ports.specs.Dues.{held_due}
-use Rattle.ds_ports.specs.Io.{IoState, is_settled, release_of, tick_after, stall_ends, with_gx}
+use Rattle.ds_ports.specs.Io.{IoState, is_settled, release_by, release_of, tick_after, stall_ends, with_gx}
 use Rattle.ds_ports.specs.ProcessorIo.{blocks_processor}
 use Rattle.ds_ports.proofs.Settles.{no_stall_begins}
 use Rattle.ds_runs.specs.Runs.{MachineStep, Makes}
@@ -121,9 +121,12 @@ no_room true false waits h = h
 no_room false true waits h = sym h
 no_room false false waits h = refl
 
-pub settled_so : (u : IoState) (g : GxState) → g.selector ≡ 0 → u.gx.selector ≡ 0 → any_armed u.nine.dma ≡ false → is_settled (with_gx g u) ≡ is_settled u
-settled_so u g here there disarmed =
-    ap (λ (on : Bool). ((irq_levelled u.nine.irq on).if_ == u.nine.irq.if_) && (not (is_half_empty g && awaits_geometry u.nine.dma) && (release_of u == u.released))) (silent_level g here ∙ sym (silent_level u.gx there))
+pub settled_so : (u : IoState) (g : GxState) → g.selector ≡ 0 → u.gx.selector ≡ 0 → is_stalled g ≡ is_stalled u.gx → any_armed u.nine.dma ≡ false
+    → is_settled (with_gx g u) ≡ is_settled u
+settled_so u g here there stalls disarmed =
+    ap (λ (stalled : Bool). ((irq_levelled u.nine.irq (gx_level g)).if_ == u.nine.irq.if_)
+    && (not (is_half_empty g && awaits_geometry u.nine.dma) && (release_by stalled (dma_due u.nine.dma) u.released == u.released))) stalls
+    ∙ ap (λ (on : Bool). ((irq_levelled u.nine.irq on).if_ == u.nine.irq.if_) && (not (is_half_empty g && awaits_geometry u.nine.dma) && (release_of u == u.released))) (silent_level g here ∙ sym (silent_level u.gx there))
     ∙ ap (λ (b : Bool). ((irq_levelled u.nine.irq (gx_level u.gx)).if_ == u.nine.irq.if_) && (not b && (release_of u == u.released)))
     (no_room (is_half_empty g) (is_half_empty u.gx) (awaits_geometry u.nine.dma) (none_awaits u.nine.dma disarmed))
 
@@ -139,7 +142,8 @@ sound_late s sound quiet =
       };
       asleep = asleep;
       settled =
-          settled_so s.io (gx_finished s.io.gx) (done_selector s.io.gx.due (complete_command s.io.gx.fifo.entries) s.io.gx ∙ k.selector) k.selector k.disarmed ∙ sound.settled;
+          settled_so s.io (gx_finished s.io.gx) (done_selector s.io.gx.due (complete_command s.io.gx.fifo.entries) s.io.gx ∙ k.selector) k.selector
+          (no_stall_begins s.io.gx k.free ∙ sym k.free) k.disarmed ∙ sound.settled;
     } where
       asleep : (proc : Proc) → wakes (late_put (gx_finished s.io.gx) s) proc ≡ false
       asleep Nine = sound.asleep Nine

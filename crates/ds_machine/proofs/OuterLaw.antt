@@ -13,7 +13,7 @@ use Rattle.ds_map.specs.Shares.{IsSharedSo}
 use Rattle.ds_map.specs.Views.{NineReach, SevenReach}
 use Rattle.ds_ports.specs.Acting.{is_quiet}
 use Rattle.ds_ports.specs.Happenings.{IsTold, ipc_bits}
-use Rattle.ds_ports.specs.Io.{IoState, channel_comes_before, io_of, is_settled, level_told, release_of, settled}
+use Rattle.ds_ports.specs.Io.{IoState, io_of, is_settled, level_told, release_by, release_of, settled}
 use Rattle.ds_ports.specs.ProcessorIo.{blocks_processor, processor_io_triggered}
 use Rattle.ds_dma.specs.declared.controls.Cause.TheVariants as causes
 use Rattle.ds_runs.specs.Actors.{actor_of}
@@ -164,8 +164,9 @@ module _ (tick : Tick) (s made : MachineState) (sound : IsSound s) (parts : HasS
   released_so l =
       let geometry = l.geometry refl in
       settled_released tick made.io parts.io (not_due_dma made.io.gx made.io.nine.dma geometry.0 l.told.own.dma)
-      ∙ ap (λ (dma : DmaState). if channel_comes_before (dma_due dma) made.io.released then made.io.released else 0) l.told.own.dma
-      ∙ ap (λ (released : ℕ). if channel_comes_before (dma_due s.io.nine.dma) released then released else 0) geometry.1
+      ∙ ap (λ (gx : GxState). release_by (is_stalled gx) (dma_due made.io.nine.dma) made.io.released) geometry.0
+      ∙ ap (λ (dma : DmaState). release_by (is_stalled s.io.gx) (dma_due dma) made.io.released) l.told.own.dma
+      ∙ ap (λ (released : ℕ). release_by (is_stalled s.io.gx) (dma_due s.io.nine.dma) released) geometry.1
       ∙ (settled_parts s.io sound.settled).kept
 
   nine_told : LeavesApart Nine s made → is_halted made Nine ≡ false → IsOnlyTold s.io.nine (ended tick made).io.nine

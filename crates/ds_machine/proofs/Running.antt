@@ -223,6 +223,13 @@ module _ (s next : MachineState) (tick : Tick) (rank : ℕ) (outs : List Shown) 
         own_later : IsLater tick (due_at (dues_of next) rank)
         own_later = subst (IsLater tick) (sym (due_of_rank next rank low)) (owes_as s next tick rank outs st h).own
 
+pub short_least : (s next : MachineState) (tick : Tick) (rank : ℕ) (outs : List Shown) → Steps (actor_of rank) rank tick s → IsLeast (dues_of s) tick rank
+    → reference_step rank s ≡ Makes next outs → HasShortRun s → HasShortRun next
+short_least s next tick rank outs st least h short = elim (same_or_not rank 12) [
+  | inl is ↦ short_geometry s next tick rank outs st h short is least
+  | inr ne ↦ short_other s next tick rank outs st h short (actors_differ 12 rank (omega arith) (low_rank s rank tick st.there) ne)
+]
+
 short_then : (s next : MachineState) (tick : Tick) (rank : ℕ) (outs : List Shown) → IsSound s → Steps (actor_of rank) rank tick s → MayThen s rank tick → reference_step rank s ≡ Makes next outs
     → HasShortRun s → HasShortRun next
 short_then s next tick rank outs sound st may h short = elim may [
@@ -240,10 +247,7 @@ short_then s next tick rank outs sound st may h short = elim may [
   of_other ne = short_other s next tick rank outs st h short (actors_differ 12 rank (omega arith) (low_rank s rank tick st.there) ne)
 
   of_least : IsLeast (dues_of s) tick rank → HasShortRun next
-  of_least least = elim (same_or_not rank 12) [
-    | inl is ↦ short_geometry s next tick rank outs st h short is least
-    | inr ne ↦ of_other ne
-  ]
+  of_least least = short_least s next tick rank outs st least h short
 
 -- ---- a step that may be taken
 

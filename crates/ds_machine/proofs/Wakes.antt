@@ -11,13 +11,13 @@ use Rattle.ds_dma.specs.States.{DmaState, awaits_geometry, dma_due}
 use Rattle.ds_dma.specs.declared.controls.Cause.TheVariants as causes
 use Rattle.ds_dma.proofs.Wholes.{awaits_none}
 use Rattle.ds_ports.specs.ProcessorIo.{ProcessorIoState, processor_io_triggered}
-use Rattle.ds_ports.specs.Io.{IoState, channel_comes_before, io_of, is_settled, level_told, release_kept, release_of, settled, with_halted}
+use Rattle.ds_ports.specs.Io.{IoState, io_of, is_settled, level_told, release_by, release_kept, release_of, settled, with_halted}
 use Rattle.ds_machine.specs.Reference.{due_unless, keys_due, processor_due}
 use Rattle.ds_machine.specs.Sound.{AreAsleep, HasSoundParts}
 use Rattle.ds_machine.specs.States.{MachineState, ProcessorState, counts_of}
 use Rattle.ds_machine.proofs.Ticks.{after_unit}
 use Rattle.ds_machine.specs.Steps.{due_past_unit, ended, goes_on, is_blocked, is_halted, machine_settled, processor_of, wakes, with_halt, with_processor, woken, woken_one}
-use Rattle.gx_fifo.specs.GxStates.{AreWaiting, is_half_empty}
+use Rattle.gx_fifo.specs.GxStates.{AreWaiting, is_half_empty, is_stalled}
 use Rattle.ds_machine.proofs.Moves.{Moves, blocked_moves, later_unless, moves_of, then_all}
 use Rattle.ds_ports.proofs.Later.{each_processor_io, of_both, processor_io_each, processor_io_is, same_reschedules, io_is}
 use Rattle.ds_ports.proofs.Settles.{happens_held, settled_happens, settles}
@@ -188,7 +188,7 @@ pub settled_released : (tick : Tick) (u : IoState) → IsIo u → (is_half_empty
 settled_released tick u is none = by_half (is_half_empty u.gx) none where
   by_half : (half : Bool) → (half && awaits_geometry u.nine.dma) ≡ false
       → (release_kept (if half then record (level_told u) { nine = processor_io_triggered (level_told u).nine causes.Geometry tick } else level_told u)).released ≡ release_of u
-  by_half true h = ap (λ (dma : DmaState). if channel_comes_before (dma_due dma) u.released then u.released else 0) (awaits_none u.nine.dma tick is.nine.dma.four h)
+  by_half true h = ap (λ (dma : DmaState). release_by (is_stalled u.gx) (dma_due dma) u.released) (awaits_none u.nine.dma tick is.nine.dma.four h)
   by_half false h = refl
 
 pub settled_due : (tick : Tick) (s : MachineState) (proc : Proc) → (processor_of (machine_settled tick s) proc).due ≡ (processor_of s proc).due

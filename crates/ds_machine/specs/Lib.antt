@@ -31,4 +31,8 @@ pub mod Hearing
 pub mod DecodedSteps
 pub mod PrivateSides
 pub mod Halting
+pub mod Within
+pub mod Back
 pub mod CardSteps
+pub mod Saved
+pub mod Taken

@@ -75,7 +75,7 @@ impl Parts {
         earlier_than(self.acting_event(), self.first_processor())
     }
 
-    /// When an actor is due. One that isn't built yet is never due.
+    /// When an actor is due.
     #[inline(always)]
     pub fn due_by(&self, actor: Actor) -> Option<Tick>
         requires { IsNumbered actor }

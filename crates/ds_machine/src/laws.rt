@@ -1,6 +1,7 @@
 //! The laws of the reference run.
 
 ghost use Rattle.ds_runs.specs.Laws.{RunsJoin, RunsAreOne, RunsExist, RunsEnd};
+ghost use Rattle.ds_machine.specs.Back.{MachinesComeBack};
 ghost use Rattle.ds_machine.specs.CardSteps.{LoadsGiveWords, MachineTakesInOrder, ReadsGiveWords, RunsTakeCardSteps, StepsPassCard};
 ghost use Rattle.ds_machine.specs.Frames.{FramesAreFew, StepsFollowFrames, StepsFollowLists, StopsLeaveFrames, StopsLeaveLists};
 ghost use Rattle.ds_machine.specs.Halting.{BootsKeepNoMore, RunsKeepNoMore};
@@ -12,6 +13,7 @@ ghost use Rattle.ds_machine.specs.Touched.{EachTouches, GeometryDelays, StepsKee
 ghost use Rattle.ds_machine.specs.Reference.{reference};
 ghost use Rattle.ds_machine.specs.Sound.{HasSoundParts};
 ghost use Rattle.ds_machine.specs.Counting.{CountsAddUp, LimitsRise, StartsRunning, StepsCount, StepsKeepRunning, StopsCountNone};
+ghost use Rattle.ds_machine.specs.Within.{BootsWithinTick, RunsKeepScript, RunsStayWithinTick, TicksRise};
 ghost use Rattle.ds_machine.specs.Statuses.{BootsWithStatuses, RunsKeepStatuses, StepsKeepStatuses};
 
 /// Does nothing; its contract states the laws of the reference run, which hold for every state and every limit: the run to a
@@ -58,6 +60,24 @@ pub fn status_laws()
 pub fn kept_laws()
     ensures boot { BootsKeepNoMore }
     ensures run { RunsKeepNoMore }
+{}
+
+/// Does nothing; its contract states what the machine keeps of time where all its steps were due below a tick, at boot by tick 0 (`boot`) and
+/// wherever a run to a tick ends (`run`), and by each later tick too (`rise`): ticks of earlier steps are no later than that tick, due ticks come at
+/// most 2^32 ticks after it, the display is where its events leave it, the run of vertices is no longer than there were ticks, and a word of the card
+/// that is ready is the file's. And there the lines of a script that are to come are those that are due from that tick on (`keys`).
+pub fn time_laws()
+    ensures boot { BootsWithinTick }
+    ensures rise { TicksRise }
+    ensures run { RunsStayWithinTick }
+    ensures keys { RunsKeepScript }
+{}
+
+/// Does nothing; its contract states that the bytes of a machine at a tick are read as it was, with the file, the key script and the counts of steps
+/// that it was written with: of one that waits at that tick, keeps of time what `time_laws` tells, and whose numbers are those that the code keeps.
+#[tactic(auto, using(crate::proofs::Back::machines_come_back))]
+pub fn back_laws()
+    ensures { MachinesComeBack }
 {}
 
 /// Does nothing; its contract states the laws of a machine that goes on, and how many steps it took. So does one that is at a tick, as at boot it is

@@ -40,6 +40,16 @@
 //!   observes geometry (`observes_by`); `catch_up` takes exactly the steps of quiet geometry before a place in the order of steps, before
 //!   which nobody acts (`CatchesUp`), and `catch_up_before` does so before a step that observes geometry (`CatchesUpFor`).
 //!
+//! Proved of bytes, by one format (`machine_format`), which is the order of the fields with each field's rule; the formats of the units are their
+//! own:
+//! - `pack` puts exactly the machine's bytes by it. `unpack`, at a tick, with a cartridge, a whole key script and the counts of steps, gives exactly
+//!   the machine that is read, or where the first field begins that isn't whole or breaks its rule (`read_format`); a rule over several units is told
+//!   at the last of its fields. What isn't saved is made anew: the geometry FIFO's bit of ARM9's IF, what a stall's end left (`released_again`), and
+//!   the lines of the script that are to come (`script_from`). The machine goes on (clause `running`): its units are settled, no halted processor is
+//!   to wake, and nobody is due before the tick.
+//! - `saved_laws`: bytes that are read are those of what is read (`spelling`); they are those of the state alone (`same`); and what is read has the
+//!   counts and the file that were handed in (`counts`).
+//!
 //! Proved of runs, each by a law call:
 //! - `reference_laws`: runs join, are unique, exist, and take at most 24 steps a tick.
 //! - `running_laws`: a machine goes on at boot, after each step that may be taken, with each later limit, and from any state that was kept
@@ -55,6 +65,9 @@
 //! - `acting_laws`: both together, for each step of a turn.
 //! - `own_turn_laws`: a step of a turn leaves its processor fewer ticks below the limit (`own_remaining`).
 //! - `kept_laws`: nothing is kept that has no effect (`KeepsNoMore`).
+//! - `time_laws`: what the machine keeps of time wherever a run to a tick ends, at boot, and by each later tick (`IsWithinTick`), and which lines
+//!   of a script are left there.
+//! - `back_laws`: the bytes of such a machine are read as it was.
 //! - `status_laws`: CPSR and SPSR have no bits but those that are kept.
 //! - `frame_laws`: a frame or lists that a step puts out are the machine's last ones after it, and no other step changes them.
 //! - `room_laws`: an instruction makes sixteen accesses of data at most; where no stall holds ARM9 each access finds at most 320 entries
@@ -66,8 +79,8 @@
 //!   geometry within its sizes.
 //!
 //! Only tested: through the top call (`nds_rows`) boot, worked programs, stops, and the images in work RAM; in `machine_tests` when each
-//! kind of actor is due between two steps, what a processor does next, a memory's bytes one by one, and how geometry stalls, interrupts,
-//! starts DMA and swaps.
+//! kind of actor is due between two steps, what a processor does next, a memory's bytes one by one, how geometry stalls, interrupts,
+//! starts DMA and swaps, how many bytes a booted machine has, and where some changed bytes are refused.
 #![tactic(auto)]
 
 mod answers;
@@ -84,6 +97,7 @@ mod machines;
 mod next_events;
 mod parts;
 mod processors;
+mod saved;
 mod scripts;
 mod sides;
 mod steady_ports;
@@ -96,9 +110,10 @@ pub use answers::{Done, Private, Seen};
 pub use fences::rank_of;
 pub use geometry_laws::room_laws;
 pub use laws::{
-    acting_laws, ahead_laws, frame_laws, kept_laws, lag_laws, own_step_laws, own_turn_laws,
-    reference_laws, running_laws, status_laws, touch_laws,
+    acting_laws, ahead_laws, back_laws, frame_laws, kept_laws, lag_laws, own_step_laws,
+    own_turn_laws, reference_laws, running_laws, status_laws, time_laws, touch_laws,
 };
 pub use machines::Machine;
 pub use next_events::First;
+pub use saved::saved_laws;
 pub use stopping::stop_laws;

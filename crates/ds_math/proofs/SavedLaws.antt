@@ -11,15 +11,15 @@ use Rattle.ds_state.proofs.Soon.{soon_fits}
 
 -- What the units owe of their formats.
 
-divider_exact : (at : ℕ) → IsExact divider_format at
+pub divider_exact : (at : ℕ) → IsExact divider_format at
 unfolding divider_format
 divider_exact at = λ mode _ _ numerator _ _ denominator _ _ quotient _ _ remainder _ _ due _ _. (number_again due, search rules)
 
-root_exact : (at : ℕ) → IsExact root_format at
+pub root_exact : (at : ℕ) → IsExact root_format at
 unfolding root_format
 root_exact at = λ wide _ _ value _ _ root _ _ due _ _. (number_again due, search rules)
 
-divider_stands : (at : ℕ) (d : DividerState) → at ≤ 2 ^ 56 → IsDivider d → soon at (due_number d.due) ≡ true → StandsFor divider_format at d
+pub divider_stands : (at : ℕ) (d : DividerState) → at ≤ 2 ^ 56 → IsDivider d → soon at (due_number d.due) ≡ true → StandsFor divider_format at d
 unfolding divider_format
 divider_stands at d early is due =
     let fits = soon_fits at _ early due in
@@ -27,7 +27,7 @@ divider_stands at d early is due =
     let mode = is.mode in let numerator = is.numerator in let denominator = is.denominator in let quotient = is.quotient in let remainder = is.remainder in
     (search rules, rw again refl)
 
-root_stands : (at : ℕ) (r : RootState) → at ≤ 2 ^ 56 → IsRootUnit r → soon at (due_number r.due) ≡ true → StandsFor root_format at r
+pub root_stands : (at : ℕ) (r : RootState) → at ≤ 2 ^ 56 → IsRootUnit r → soon at (due_number r.due) ≡ true → StandsFor root_format at r
 unfolding root_format
 root_stands at r early is due =
     let fits = soon_fits at _ early due in

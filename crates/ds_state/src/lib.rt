@@ -6,7 +6,7 @@
 //! own): the bytes of a state that keeps the rules are read as that state, whatever is behind them; and bytes that are read are those of the
 //! state that is read. `Packer` puts fields, and `Unpacker` takes them, each call exactly by its code and
 //! rule; `put_list`, `take_list` and `take_each` do
-//! lists of parts. No state is saved yet.
+//! lists of parts. What is saved of a machine is made of its units' bytes (`ds_machine`).
 #![tactic(auto)]
 
 mod packer;

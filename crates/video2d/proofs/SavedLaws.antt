@@ -137,7 +137,7 @@ phase_again at false rule = by_phase (scan_before at).blanked rule where
   by_phase false h = refl
   by_phase true h = sym h
 
-video_exact : (at : ℕ) → IsExact (video_format at) at
+pub video_exact : (at : ℕ) → IsExact (video_format at) at
 unfolding video_format
 video_exact at = λ line _ is_line blanked _ is_phase nine _ is_nine seven _ is_seven. (
   ports_exact A at,
@@ -177,7 +177,7 @@ phase_holds at false e = rw (← e) refl
 ports_are : (which : Engine) (e : EngineState) → IsEngine which e → ArePorts which e.ports
 ports_are which e is = record { long = is.long; kept = is.kept }
 
-video_stands : (at : ℕ) (v : VideoState) → IsSavedVideo at v → StandsFor (video_format at) at v
+pub video_stands : (at : ℕ) (v : VideoState) → IsSavedVideo at v → StandsFor (video_format at) at v
 unfolding video_format
 video_stands at v saved =
     let is = saved.is in

@@ -30,7 +30,7 @@ long_enough : (bytes : List ℕ) → length bytes ≡ 0xA4000 → length bytes �
 unfolding banks_size
 long_enough bytes long = long
 
-banks_stand : (at : ℕ) (v : Banks) → AreBanks v → StandsFor banks_format at v
+pub banks_stand : (at : ℕ) (v : Banks) → AreBanks v → StandsFor banks_format at v
 unfolding banks_format
 banks_stand at v are =
     let long = long_enough v.bytes are.bytes in

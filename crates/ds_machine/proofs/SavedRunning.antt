@@ -1,0 +1,283 @@
+use Rattle.std.proofs.Common.{rules, ℕ, zero, suc, ◌≡◌, ◌<◌, ◌≤◌, ◌+◌, ◌-◌, ◌*◌, ◌^◌, ◌==◌, nat_le, nat_lt, Bool, true, false, true≢false, if◌then◌else◌, All, IfSome, List, [], ◌∷◌, length, slice_index, slice_index_or, Option, Some, None, bit_and, bit_or, max, refl, sym, ◌∙◌, ap, subst, arith}
+use Rattle.std.specs.Prelude.{◌&&◌, ◌||◌, not}
+use Rattle.std.specs.Int.{bit_at, bit_not, w32}
+use Rattle.std.specs.List.{AllByRecursion}
+use Rattle.std.proofs.Math.Nat.{le-max_left, le-max_right}
+use Rattle.std.proofs.lemmas.Nat.Bits.{bit_at-zero, bit_at_and, bit_at_or, same_from_bits}
+use Rattle.ds_base.proofs.Choices.{both, both_true, equal, is_equal, le_of, not_false, not_lt, not_true}
+use Rattle.ds_base.specs.Schedules.{due_number}
+use Rattle.ds_base.specs.declared.keys.KeyLine.{KeyLine}
+use Rattle.ds_base.specs.declared.processors.Proc.{Proc}
+use Rattle.ds_base.specs.declared.processors.Proc.TheVariants.{Nine, Seven}
+use Rattle.ds_base.specs.declared.ticks.Tick.{Tick}
+use Rattle.ds_card.specs.Cards.{CardState, card_due}
+use Rattle.ds_card.specs.Saved.{card_format}
+use Rattle.ds_dma.proofs.SavedLaws.{none_earlier}
+use Rattle.ds_dma.specs.Channels.{ChannelState, is_running, ready}
+use Rattle.ds_dma.specs.Saved.{channel_format_by, comes_by, dma_format_by, last_must, must_run}
+use Rattle.ds_dma.specs.States.{DmaState, any_runs, awaits_geometry, channel_at, channel_due, dma_due, due_with, least_running}
+use Rattle.ds_dma.specs.declared.dma.DmaDue.{DmaDue}
+use Rattle.ds_math.specs.Dividers.{DividerState}
+use Rattle.ds_math.specs.Roots.{RootState}
+use Rattle.ds_math.specs.Saved.{divider_format, root_format}
+use Rattle.ds_ports.specs.Dues.{held_due, released_at}
+use Rattle.ds_ports.specs.Io.{channel_comes_before}
+use Rattle.ds_runs.specs.Runs.{IsOver, due_at}
+use Rattle.ds_state.proofs.Kept.{kept_twice}
+use Rattle.ds_state.specs.Formats.{soon}
+use Rattle.ds_state.specs.Laws.{StandsFor}
+use Rattle.ds_timers.specs.Irqs.{IrqState, events, irq_levelled, level, shares_bit}
+use Rattle.ds_timers.specs.Saved.{anchor_number, anchors_by, irq_format_by, numbered_anchor, sleeps_by, timer_format, timers_format}
+use Rattle.ds_timers.specs.Timing.{TimerState, full, pace, runs_free, timer_at, timer_due}
+use Rattle.gx_fifo.specs.GxStates.{GxState, gx_level, is_half_empty, is_stalled, waiting_entries}
+use Rattle.gx_fifo.specs.Saved.{gx_format_by, holds_by}
+use Rattle.gx_fifo.specs.declared.gx.saved.Asked.{Asked}
+use Rattle.gx_geometry.specs.Saved.{geometry_format}
+use Rattle.gx_geometry.specs.States.{GeometryState}
+use Rattle.video2d.specs.Saved.{video_format}
+use Rattle.video2d.specs.Scans.{scan_before}
+use Rattle.video2d.specs.Videos.{VideoState}
+use Rattle.ds_machine.specs.Reference.{keys_due}
+use Rattle.ds_machine.specs.Saved.{script_from}
+
+-- What a part that bytes stand for keeps: no tick at which it is due is earlier than that of the state.
+
+abbrev pub IsDueFrom : ℕ → Option Tick → Type 0
+IsDueFrom at None = Unit {0}
+IsDueFrom at (Some due) = at ≤ due.0
+
+abbrev IsThere : Option Tick → Type 0
+IsThere None = ⊥
+IsThere (Some due) = Unit {0}
+
+pub over_from : (at : ℕ) (dues : List (Option Tick)) → AllByRecursion (IsDueFrom at) dues → IsOver dues at
+over_from at [] all zero tick h = absurd (subst IsThere (sym h) tt)
+over_from at [] all (suc rank) tick h = absurd (subst IsThere (sym h) tt)
+over_from at (due ∷ dues) all zero tick h = subst (IsDueFrom at) h all.0
+over_from at (due ∷ dues) all (suc rank) tick h = over_from at dues all.1 rank tick h
+
+soon_from : (at : ℕ) (due : Option Tick) → soon at (due_number due) ≡ true → IsDueFrom at due
+soon_from at None h = tt
+soon_from at (Some due) h = le_of at due.0 (both _ _ h).0
+
+-- the key script
+pub script_due : (at : ℕ) (keys : List KeyLine) → IsDueFrom at (keys_due (script_from at keys))
+script_due at [] = tt
+script_due at (line ∷ lines) = by_line (nat_lt line.tick.0 at) refl (script_due at lines) where
+  by_line : (b : Bool) → nat_lt line.tick.0 at ≡ b → IsDueFrom at (keys_due (script_from at lines))
+      → IsDueFrom at (keys_due (if b then script_from at lines else line ∷ lines))
+  by_line true e later = later
+  by_line false e later = not_lt line.tick.0 at e
+
+-- the timers
+free_from : (free : Bool) (at control count number : ℕ) → anchors_by free control count at number ≡ true
+    → IsDueFrom at (full (if free then Some (record { 0 = number }) else None) count (pace control))
+free_from true at control count number h = le_of _ _ (both _ _ h).1
+free_from false at control count number h = tt
+
+timer_from : (which at : ℕ) (t : TimerState) → StandsFor (timer_format which) at t → IsDueFrom at (timer_due t)
+unfolding timer_format
+timer_from which at t stands =
+    let since : numbered_anchor which t.control (anchor_number t.since) ≡ t.since = ap (λ (x : TimerState). x.since) stands.1 in
+    subst (λ (s : Option Tick). IsDueFrom at (full s t.count (pace t.control))) since
+    (free_from (runs_free which t.control) at t.control t.count (anchor_number t.since) stands.0.2.2.2.1)
+
+pub timers_from : (at : ℕ) (timers : List TimerState) → StandsFor timers_format at timers
+    → IsDueFrom at (timer_due (timer_at timers 0)) × IsDueFrom at (timer_due (timer_at timers 1)) × IsDueFrom at (timer_due (timer_at timers 2)) × IsDueFrom at (timer_due (timer_at timers 3))
+unfolding timers_format
+timers_from at timers stands =
+    (timer_from 0 at (timer_at timers 0) stands.0.0, timer_from 1 at (timer_at timers 1) stands.0.1.0, timer_from 2 at (timer_at timers 2) stands.0.1.1.0, timer_from 3 at (timer_at timers 3) stands.0.1.1.1.0)
+
+-- the divider and the square root unit
+pub divider_from : (at : ℕ) (d : DividerState) → StandsFor divider_format at d → IsDueFrom at d.due
+unfolding divider_format
+divider_from at d stands = soon_from at d.due stands.0.2.2.2.2.2.1
+
+pub root_from : (at : ℕ) (r : RootState) → StandsFor root_format at r → IsDueFrom at r.due
+unfolding root_format
+root_from at r stands = soon_from at r.due stands.0.2.2.2.1
+
+-- the card
+pub card_from : (file : List ℕ) (at : ℕ) (c : CardState) → StandsFor (card_format file) at c → IsDueFrom at (card_due c)
+unfolding card_format
+card_from file at c stands = soon_from at (card_due c) (both _ _ stands.0.2.2.2.2.2.2.1).0
+
+-- the display
+pub scan_again : (at : ℕ) (v : VideoState) → StandsFor (video_format at) at v → v.scan ≡ scan_before at
+unfolding video_format
+scan_again at v stands = sym (ap (λ (w : VideoState). w.scan) stands.1)
+
+-- geometry
+pub gx_from : (asked : Asked) (at : ℕ) (gx : GxState) → StandsFor (gx_format_by asked) at gx → IsDueFrom at gx.due
+unfolding gx_format_by
+gx_from asked at gx stands = soon_from at gx.due stands.0.1.2.2.2.2.2.2.1
+
+pub gx_holds : (asked : Asked) (at : ℕ) (gx : GxState) → StandsFor (gx_format_by asked) at gx → holds_by asked gx.selector (waiting_entries gx) ≡ true
+unfolding gx_format_by
+gx_holds asked at gx stands = (both _ _ stands.0.1.2.2.1).0
+
+geometry_run : (at : ℕ) (g : GeometryState) → StandsFor geometry_format at g → g.numbers.run ≤ at
+unfolding geometry_format
+geometry_run at g stands = le_of g.numbers.run at stands.0.1.2.2.1.1.2.1
+
+pub gx_run : (asked : Asked) (at : ℕ) (gx : GxState) → StandsFor (gx_format_by asked) at gx → gx.geometry.numbers.run ≤ at
+unfolding gx_format_by
+gx_run asked at gx stands = geometry_run at gx.geometry stands.0.0
+
+-- ARM9's channels: what a stall's end left holds one back that would come before
+before_or : (at : ℕ) (t : Tick) (b : Bool) → nat_lt t.0 at ≡ b → at ≤ max (if b then at else 0) t.0
+before_or at t true e = le-max_left at t.0
+before_or at t false e = let late = not_lt t.0 at e in let le = le-max_right 0 t.0 in omega (arith, late, le)
+
+held_from : (stalled : Bool) (at least : ℕ) (r : Option Tick)
+    → IsDueFrom at (held_due stalled (if stalled then 0 else (if channel_comes_before (due_with least r) at then at else 0)) r)
+held_from true at least r = tt
+held_from false at least None = tt
+held_from false at least (Some t) = before_or at t (nat_lt t.0 at) refl
+
+none_held : (stalled : Bool) (at released : ℕ) → IsDueFrom at (held_due stalled released None)
+none_held true at released = tt
+none_held false at released = tt
+
+of_channel : (stalled : Bool) (at released : ℕ) (dma : DmaState) (which : ℕ)
+    → IsDueFrom at (held_due stalled released (ready dma.last (channel_at dma.channels (least_running dma.channels)))) → IsDueFrom at (held_due stalled released (channel_due dma which))
+of_channel stalled at released dma which from = by_same (which == least_running dma.channels) refl where
+  by_same : (b : Bool) → (which == least_running dma.channels) ≡ b → IsDueFrom at (held_due stalled released (if b then ready dma.last (channel_at dma.channels which) else None))
+  by_same true e = subst (λ (n : ℕ). IsDueFrom at (held_due stalled released (ready dma.last (channel_at dma.channels n)))) (sym (equal which (least_running dma.channels) e)) from
+  by_same false e = none_held stalled at released
+
+pub nine_channel : (at : ℕ) (gx : GxState) (dma : DmaState) (released : ℕ)
+    → released ≡ (if is_stalled gx then 0 else (if channel_comes_before (dma_due dma) at then at else 0)) → (which : ℕ)
+    → IsDueFrom at (held_due (is_stalled gx) released (channel_due dma which))
+nine_channel at gx dma released is which =
+    of_channel (is_stalled gx) at released dma which
+    (subst (λ (n : ℕ). IsDueFrom at (held_due (is_stalled gx) n (ready dma.last (channel_at dma.channels (least_running dma.channels))))) (sym is)
+    (held_from (is_stalled gx) at (least_running dma.channels) (ready dma.last (channel_at dma.channels (least_running dma.channels)))))
+
+-- ARM7's
+comes_again : (late : Bool) (at : ℕ) (dma : DmaState) → StandsFor (dma_format_by Seven late) at dma → comes_by Seven at (dma_due dma) ≡ true
+unfolding dma_format_by
+comes_again late at dma stands = subst (λ (d : DmaState). comes_by Seven at (dma_due d) ≡ true) stands.1 (both _ _ stands.0.1.1.1.1.2.1).0
+
+not_before : (at least : ℕ) (r : Option Tick) → IfSome (due_with least r) (λ due. at ≤ due.tick.0) → IsDueFrom at (held_due false 0 r)
+not_before at least None h = tt
+not_before at least (Some t) h = let le = le-max_right 0 t.0 in omega (arith, h, le)
+
+unheld : (at : ℕ) (r : Option Tick) → IsDueFrom at (held_due false 0 r) → IsDueFrom at r
+unheld at None h = tt
+unheld at (Some t) h = omega (arith, h)
+
+pub seven_channel : (late : Bool) (at : ℕ) (dma : DmaState) → StandsFor (dma_format_by Seven late) at dma → (which : ℕ) → IsDueFrom at (channel_due dma which)
+seven_channel late at dma stands which =
+    unheld at (channel_due dma which)
+    (of_channel false at 0 dma which
+    (not_before at (least_running dma.channels) (ready dma.last (channel_at dma.channels (least_running dma.channels)))
+    (none_earlier Seven at (dma_due dma) (comes_again late at dma stands) refl)))
+
+some_runs : (a b c d : Bool) → must_run (true && not (a || b || c)) d ≡ true → (a || b || c || d) ≡ true
+some_runs true b c d h = refl
+some_runs false true c d h = refl
+some_runs false false true d h = refl
+some_runs false false false d h = h
+
+channel_runs : (must : Bool) (at : ℕ) (c : ChannelState) → StandsFor (channel_format_by Seven 3 must) at c → must_run must (is_running c) ≡ true
+unfolding channel_format_by
+channel_runs must at c stands = (both _ _ stands.0.2.2.2.2.2.2.2.1).0
+
+pub late_runs : (late : Bool) (at : ℕ) (dma : DmaState) → StandsFor (dma_format_by Seven late) at dma → late ≡ true → any_runs dma.channels ≡ true
+unfolding dma_format_by
+late_runs late at dma stands is =
+    let must = channel_runs (last_must late (channel_at dma.channels 0) (channel_at dma.channels 1) (channel_at dma.channels 2)) at (channel_at dma.channels 3) stands.0.1.1.1.0 in
+    some_runs (is_running (channel_at dma.channels 0)) (is_running (channel_at dma.channels 1)) (is_running (channel_at dma.channels 2)) (is_running (channel_at dma.channels 3))
+    (subst (λ (b : Bool). must_run (b && not (is_running (channel_at dma.channels 0) || is_running (channel_at dma.channels 1) || is_running (channel_at dma.channels 2))) (is_running (channel_at dma.channels 3)) ≡ true) is must)
+
+-- the processors
+pub own_from : (halted runs : Bool) (at due : ℕ) → ((not halted && nat_lt due at) ≡ true → runs ≡ true) → IsDueFrom at (if (halted || runs) then None else Some (record { 0 = due }))
+own_from true runs at due held = tt
+own_from false true at due held = tt
+own_from false false at due held = by_late (nat_lt due at) refl where
+  by_late : (b : Bool) → nat_lt due at ≡ b → at ≤ due
+  by_late true e = absurd (true≢false (sym (held e)))
+  by_late false e = not_lt due at e
+
+pub own_from_nine : (halted runs stalled : Bool) (at due : ℕ) → (((not halted && nat_lt due at) && not runs) ≡ true → stalled ≡ true)
+    → IsDueFrom at (if ((halted || runs) || stalled) then None else Some (record { 0 = due }))
+own_from_nine true runs stalled at due held = tt
+own_from_nine false true stalled at due held = tt
+own_from_nine false false true at due held = tt
+own_from_nine false false false at due held = by_late (nat_lt due at) refl where
+  by_late : (b : Bool) → nat_lt due at ≡ b → at ≤ due
+  by_late true e = absurd (true≢false (sym (held (both_true _ _ e refl))))
+  by_late false e = not_lt due at e
+
+-- ---- interrupts: no halted processor is to wake, and ARM9's FIFO's bit is told as it is
+
+if_both : (a : Bool) (x : Bool) → (if a then x else true) ≡ true → a ≡ true → x ≡ true
+if_both true x h e = h
+if_both false x h e = absurd (true≢false (sym e))
+
+never_so : (a : Bool) → (if a then false else true) ≡ true → a ≡ false
+never_so true h = absurd (true≢false (sym h))
+never_so false h = refl
+
+-- what was asked of geometry's entries
+pub record Answers (asked : Asked) (selector waiting : ℕ) (low stalls half : Bool) : Type 0 where
+  pub wakes : asked.wakes ≡ false
+  pub hears : asked.hears ≡ true → low ≡ false
+  pub late : asked.late ≡ true → stalls ≡ true
+  pub waits : asked.waits ≡ true → half ≡ false
+
+pub answered : (asked : Asked) (at : ℕ) (gx : GxState) → StandsFor (gx_format_by asked) at gx
+    → Answers asked gx.selector (waiting_entries gx) (gx_level gx) (is_stalled gx) (is_half_empty gx)
+answered asked at gx stands =
+    let one = both _ _ (gx_holds asked at gx stands) in
+    let two = both _ _ one.1 in
+    let three = both _ _ two.1 in
+    record {
+      wakes = never_so asked.wakes one.0;
+      hears = λ e. not_true (gx_level gx) (if_both asked.hears (not (gx_level gx)) two.0 e);
+      late = λ e. if_both asked.late (is_stalled gx) three.0 e;
+      waits = λ e. not_true (is_half_empty gx) (if_both asked.waits (not (is_half_empty gx)) three.1 e);
+    }
+
+or_zero : (a x y : ℕ) → bit_and a x ≡ 0 → bit_and a y ≡ 0 → bit_and a (bit_or x y) ≡ 0
+or_zero a x y h k = same_from_bits (bit_and a (bit_or x y)) 0 (λ i.
+    let p = bit_at_and a (bit_or x y) i in let q = bit_at_or x y i in let r = bit_at_and a x i in let s = bit_at_and a y i in
+    let no_x : bit_at (bit_and a x) i ≡ 0 = ap (λ (n : ℕ). bit_at n i) h ∙ bit_at-zero i in
+    let no_y : bit_at (bit_and a y) i ≡ 0 = ap (λ (n : ℕ). bit_at n i) k ∙ bit_at-zero i in
+    let none = bit_at-zero i in
+    omega (arith, p, q, r, s, no_x, no_y, none))
+
+or_twice : (x y : ℕ) → bit_or (bit_or x y) y ≡ bit_or x y
+or_twice x y = same_from_bits (bit_or (bit_or x y) y) (bit_or x y) (λ i. let a = bit_at_or (bit_or x y) y i in let b = bit_at_or x y i in omega (arith, a, b))
+
+pub levelled_twice : (s : IrqState) (on : Bool) → (irq_levelled (irq_levelled s on) on).if_ ≡ (irq_levelled s on).if_
+levelled_twice s true = or_twice s.if_ level
+levelled_twice s false = kept_twice s.if_ (bit_not w32 level)
+
+none_shared : (a b : ℕ) → not (bit_and a b == 0) ≡ false → bit_and a b ≡ 0
+none_shared a b h = equal (bit_and a b) 0 (not_false _ h)
+
+shares_none : (a b : ℕ) → bit_and a b ≡ 0 → not (bit_and a b == 0) ≡ false
+shares_none a b h = ap (λ (n : ℕ). not (n == 0)) h
+
+-- ARM9, with what is made of its interrupt words without the FIFO's bit
+pub nine_asleep : (halted on : Bool) (i : IrqState) → events i.if_ ≡ i.if_ → (halted && shares_bit i) ≡ false → ((halted && not (bit_and i.ie level == 0)) ≡ true → on ≡ false)
+    → (halted && shares_bit (irq_levelled i on)) ≡ false
+nine_asleep false on i low apart hears = refl
+nine_asleep true false i low apart hears = ap (λ (n : ℕ). not (bit_and i.ie n == 0)) low ∙ apart
+nine_asleep true true i low apart hears = by_bit (not (bit_and i.ie level == 0)) refl where
+  by_bit : (b : Bool) → not (bit_and i.ie level == 0) ≡ b → not (bit_and i.ie (bit_or i.if_ level) == 0) ≡ false
+  by_bit true e = absurd (true≢false (hears e))
+  by_bit false e = shares_none i.ie (bit_or i.if_ level) (or_zero i.ie i.if_ level (none_shared i.ie i.if_ apart) (none_shared i.ie level e))
+
+-- ARM7
+sleeps_so : (halted : Bool) (ie flags : ℕ) → sleeps_by halted ie flags ≡ true → (halted && not (bit_and ie flags == 0)) ≡ false
+sleeps_so false ie flags h = refl
+sleeps_so true ie flags h = shares_none ie flags (equal (bit_and ie flags) 0 h)
+
+pub seven_asleep : (halted : Bool) (at : ℕ) (i : IrqState) → StandsFor (irq_format_by Seven halted) at i → (halted && shares_bit i) ≡ false
+unfolding irq_format_by
+seven_asleep halted at i stands =
+    ap (λ (n : ℕ). halted && not (bit_and i.ie n == 0)) (sym (ap (λ (j : IrqState). j.if_) stands.1))
+    ∙ sleeps_so halted i.ie (events i.if_) (both _ _ stands.0.2.2.1).0

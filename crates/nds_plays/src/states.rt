@@ -1,0 +1,38 @@
+//! A console in bytes, after a run.
+
+ghost use Rattle.std.specs.Prelude.{◌≡◌, ◌≤◌, ◌^◌, None, IfOk, OnErr};
+ghost use Rattle.nds_plays.specs.States.{saved_after};
+ghost use Rattle.nds_plays.specs.Watches.{WritesAfter};
+
+use crate::plays::Played;
+use crate::throughs::run_through;
+use ds_base::Tick;
+use ds_io::{Sink, put_all};
+use run_ahead::Console;
+use sha2::{Digest, Sha256};
+use std::alloc::{AllocError, Global};
+
+/// Runs a console to a tick, and writes it in bytes as it is then. Where it stops before, nothing is written. The error is want of memory for the
+/// bytes; then nothing is written either.
+pub fn save<O: Sink>(
+    alloc: Global,
+    console: &mut Console,
+    until: Tick,
+    out: &mut O,
+) -> Result<Played, AllocError>
+    requires early { until.0 ≤ 2 ^ 56 }
+    requires open { console.old.stopped ≡ None }
+    requires limit { console.old.limit ≤ until.0 }
+    ensures ok { IfOk result (λ played. WritesAfter O.tells O.taken O.faults until.0 saved_after console.old out.old played console.new out.new) }
+    ensures err { OnErr result (out.new ≡ out.old) }
+{
+    if let Some(left) = run_through(console, until) {
+        return Ok(Played::LeftOut(left));
+    }
+    let digest = Sha256::digest(console.file());
+    let bytes = console.save(alloc, &digest, until)?;
+    match put_all(out, bytes.as_slice()) {
+        Ok(()) => Ok(Played::Done),
+        Err(_) => Ok(Played::WriteFault),
+    }
+}

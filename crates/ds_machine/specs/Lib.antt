@@ -35,4 +35,3 @@ pub mod Within
 pub mod Back
 pub mod CardSteps
 pub mod Saved
-pub mod Taken

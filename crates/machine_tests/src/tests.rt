@@ -5,5 +5,4 @@ mod display;
 mod geometry;
 mod observed;
 mod room;
-mod saved;
 mod told;

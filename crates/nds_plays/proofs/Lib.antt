@@ -2,7 +2,6 @@ pub mod Framing
 pub mod Lengths
 pub mod Playing
 pub mod Rows
-pub mod Saving
 mod LinesOnce
 pub mod Leads
 pub mod Tracing

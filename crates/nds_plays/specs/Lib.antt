@@ -1,7 +1,6 @@
 pub mod Inside
 pub mod Plays
 pub mod Records
-pub mod States
 pub mod TraceParts
 pub mod Watches
 pub mod Taken

@@ -17,11 +17,7 @@
 //! `demo_cart`: the cartridge that is made from a number is exactly its definition (clause `file`), and is accepted (`accepted`).
 //! `HashSink::count` is how many bytes were taken modulo 2^64, and `HashSink::digest` their SHA-256, with none kept. `seat_run`: from the
 //! files of a run a console is switched on where it stays, in its seat, or it is said why it isn't (`RefusesRun`), and then the seat is
-//! empty. `seat_resumed` does the same with the console that a saved console's file stands for, with the SHA-256 of the cartridge's bytes; it
-//! is told by the first field of that file that isn't whole or breaks its rule where it stands for none (`RefusesState`).
-//!
-//! Proved, of saving: `save` writes exactly the bytes of the console that the run comes to; where it stops, or where there is no memory for
-//! them, nothing.
+//! empty.
 #![tactic(auto)]
 
 mod carts;
@@ -32,7 +28,6 @@ mod peeks;
 mod plays;
 mod records;
 mod seats;
-mod states;
 mod steps;
 mod throughs;
 
@@ -41,6 +36,5 @@ pub use demos::demo;
 pub use laws::trace_laws;
 pub use peeks::peek;
 pub use plays::{Played, play};
-pub use seats::{clear_seat, empty_seat, let_go, put_resumed, seat_resumed, seat_run, switch_on};
-pub use states::save;
+pub use seats::{empty_seat, let_go, seat_run, switch_on};
 pub use steps::trace;

@@ -1,7 +1,5 @@
 mod OneAnswer
 mod Outcomes
-mod ResumeOutcomes
 pub mod Answering
-pub mod Resuming
 pub mod Running
 pub mod Viewing

@@ -42,7 +42,6 @@ gives_refused c cart keys did named statuses.TooLong untouched refused = (untouc
 gives_refused c cart keys did named (statuses.BadHeader fault) untouched refused = (untouched, refused)
 gives_refused c cart keys did named (statuses.BadScript line column) untouched refused = (untouched, refused)
 gives_refused c cart keys did named (statuses.BadText line) untouched refused = (untouched, refused)
-gives_refused c cart keys did named (statuses.BadState offset) untouched refused = (untouched, refused)
 gives_refused c cart keys did named statuses.NoMemory untouched refused = (untouched, refused)
 
 module _ {F S : Type 0} (told : F → Option Told) (shelf_faults : F → ℕ) (tells : S → Bool) (taken : S → List ℕ → Type 0) (faults : S → ℕ) (shelf_old shelf_new : F) (old new : S) where

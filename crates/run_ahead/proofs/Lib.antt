@@ -1,6 +1,5 @@
 pub mod LoadedMachine
 pub mod RunningOn
-pub mod SavedStates
 pub mod StepTurns
 pub mod Stretches
 pub mod TickTurns

@@ -16,8 +16,6 @@ ghost use Rattle.run_ahead.specs.Turns.{Turns, TurnsUpTo, RunsOn, HasRuns, turns
 ghost use Rattle.ds_base.specs.declared.left_out.LeftOut.{LeftOut};
 ghost use Rattle.run_ahead.specs.declared.turns.Turned.TheVariants.{Ran, Stopped};
 
-mod saved;
-
 use crate::loaded::Loaded;
 use crate::machine_turns::{take_stretch_of, take_turn};
 use crate::turns::Turned;
@@ -25,7 +23,6 @@ use ds_base::{Due, Keys, LeftOut, Memory, Proc, Tick};
 use ds_header::Cart;
 use ds_machine::{Done, First, Seen};
 use gx_geometry::Lists;
-pub use saved::state_laws;
 use std::alloc::{AllocError, Global};
 use std::marker::Model;
 

@@ -41,9 +41,7 @@
 //!   which nobody acts (`CatchesUp`), and `catch_up_before` does so before a step that observes geometry (`CatchesUpFor`).
 //!
 //! Proved of bytes, by one format (`machine_format`), which is the order of the fields with each field's rule; the formats of the units are their
-//! own, and a rule over several units is told at the last of its fields. No machine is taken from bytes yet.
-//! - `pack` puts exactly the machine's bytes by it. `saved_laws`: bytes that are read are those of what is read (`spelling`); they are those of the
-//!   state alone (`same`); and what is read has the counts and the file that were handed in (`counts`).
+//! own, and a rule over several units is told at the last of its fields. No machine is put in bytes or taken from them yet.
 //! - `time_laws`: at boot, and wherever a run to a tick ends, all that the machine keeps of ticks is within that tick, and the lines of the script
 //!   that are to come are those from that tick on. `back_laws`: bytes of a machine of which that is so are read as that machine, where it is sound,
 //!   nobody is due below the tick, and its numbers have their bounds (`HasMachineBounds`).
@@ -95,7 +93,6 @@ mod machines;
 mod next_events;
 mod parts;
 mod processors;
-mod saved;
 mod scripts;
 mod sides;
 mod steady_ports;
@@ -113,5 +110,4 @@ pub use laws::{
 };
 pub use machines::Machine;
 pub use next_events::First;
-pub use saved::saved_laws;
 pub use stopping::stop_laws;

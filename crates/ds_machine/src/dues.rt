@@ -14,10 +14,7 @@ ghost use Rattle.ds_machine.specs.Reference.{due_by, processor_due};
 use crate::fences::rank_of;
 use crate::parts::Parts;
 use ds_base::{Due, Proc, Tick};
-use ds_runs::{Actor, earlier, earlier_than, entry, later_than};
-
-/// The rank of the key script.
-const SCRIPT: u8 = 0;
+use ds_runs::{Actor, earlier, earlier_than, entry, later_than, ranks};
 
 impl Parts {
     /// When a processor is due, if it is.
@@ -45,7 +42,10 @@ impl Parts {
     pub fn first_event(&self) -> Due
         ensures { Some result ≡ first_from 0 (events_of self.now) }
     {
-        later_than(entry(SCRIPT, self.script.due()), self.io.first_due())
+        later_than(
+            entry(ranks::KEY_SCRIPT, self.script.due()),
+            self.io.first_due(),
+        )
     }
 
     /// The first of them that acts.
@@ -53,7 +53,10 @@ impl Parts {
     pub fn acting_event(&self) -> Due
         ensures { Some result ≡ first_from 0 (acting_events_of self.now) }
     {
-        later_than(entry(SCRIPT, self.script.due()), self.io.first_acting())
+        later_than(
+            entry(ranks::KEY_SCRIPT, self.script.due()),
+            self.io.first_acting(),
+        )
     }
 
     /// The first of the processors that is due, if one is.

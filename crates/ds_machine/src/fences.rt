@@ -17,7 +17,7 @@ ghost use Rattle.video2d.specs.Scans.{scan_due_tick};
 
 use crate::parts::Parts;
 use ds_base::{Due, Proc, Tick};
-use ds_runs::{Actor, earlier, earlier_than, entry, later_than};
+use ds_runs::{Actor, earlier, earlier_than, entry, later_than, ranks};
 
 /// A processor's rank among the actors.
 #[inline(always)]
@@ -58,31 +58,32 @@ impl Parts {
         let first = earlier(self.io.processor(proc).first_timer(rank), others);
         let video = Due {
             tick: self.io.video().due(),
-            rank: 1,
+            rank: ranks::VIDEO,
         };
-        later_than(entry(0, self.script.due()), earlier_than(video, first))
+        let script = entry(ranks::KEY_SCRIPT, self.script.due());
+        later_than(script, earlier_than(video, first))
     }
 
     /// The first that acts of those that may halt ARM9, wake it or make it wait.
     fn first_fence_of_nine(&self) -> Due
         ensures { Some result ≡ first_from 0 (fence_dues self.now Nine) }
     {
-        let geometry = entry(12, self.geometry_due());
-        let card = entry(13, self.io.card().due_for(Proc::Nine));
-        let channels = self.first_channel(Proc::Nine, 14);
+        let geometry = entry(ranks::GEOMETRY, self.geometry_due());
+        let card = entry(ranks::CARD, self.io.card().due_for(Proc::Nine));
+        let channels = self.first_channel(Proc::Nine, ranks::CHANNELS_OF_NINE);
         let later = earlier(card, channels);
         let others = earlier(geometry, later);
-        self.first_before(Proc::Nine, 2, others)
+        self.first_before(Proc::Nine, ranks::TIMERS_OF_NINE, others)
     }
 
     /// The first of those that may halt ARM7 or wake it.
     fn first_fence_of_seven(&self) -> Due
         ensures { Some result ≡ first_from 0 (fence_dues self.now Seven) }
     {
-        let card = entry(13, self.io.card().due_for(Proc::Seven));
-        let channels = self.first_channel(Proc::Seven, 18);
+        let card = entry(ranks::CARD, self.io.card().due_for(Proc::Seven));
+        let channels = self.first_channel(Proc::Seven, ranks::CHANNELS_OF_SEVEN);
         let others = earlier(card, channels);
-        self.first_before(Proc::Seven, 6, others)
+        self.first_before(Proc::Seven, ranks::TIMERS_OF_SEVEN, others)
     }
 
     /// The least tick at which one acts of those that may halt a processor, wake it or make it wait: quiet geometry doesn't.

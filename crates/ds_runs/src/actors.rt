@@ -4,6 +4,10 @@ ghost use Rattle.std.specs.Prelude.{◌≡◌, ◌<◌};
 ghost use Rattle.ds_runs.specs.Actors.{actor_of, IsNumbered};
 ghost use Rattle.ds_runs.specs.declared.actors.Actor.TheVariants.{Timer, Dma};
 
+use crate::ranks::{
+    ARM7, ARM9, CARD, CHANNELS_OF_NINE, CHANNELS_OF_SEVEN, DIVIDER, GEOMETRY, KEY_SCRIPT,
+    SQUARE_ROOT, TIMERS_OF_NINE, TIMERS_OF_SEVEN, VIDEO,
+};
 use ds_base::Proc;
 
 /// One of the console's 24 actors: whatever takes steps at due ticks. (Our choice of actors and of their ranks.)
@@ -60,17 +64,17 @@ impl Actor {
         ensures numbered { IsNumbered result }
     {
         match rank {
-            0 => Actor::KeyScript,
-            1 => Actor::Video,
-            2..=5 => timer(Proc::Nine, rank - 2),
-            6..=9 => timer(Proc::Seven, rank - 6),
-            10 => Actor::Divider,
-            11 => Actor::SquareRoot,
-            12 => Actor::Geometry,
-            13 => Actor::Card,
-            14..=17 => dma(Proc::Nine, rank - 14),
-            18..=21 => dma(Proc::Seven, rank - 18),
-            22 => Actor::Processor(Proc::Nine),
+            KEY_SCRIPT => Actor::KeyScript,
+            VIDEO => Actor::Video,
+            TIMERS_OF_NINE..TIMERS_OF_SEVEN => timer(Proc::Nine, rank - TIMERS_OF_NINE),
+            TIMERS_OF_SEVEN..DIVIDER => timer(Proc::Seven, rank - TIMERS_OF_SEVEN),
+            DIVIDER => Actor::Divider,
+            SQUARE_ROOT => Actor::SquareRoot,
+            GEOMETRY => Actor::Geometry,
+            CARD => Actor::Card,
+            CHANNELS_OF_NINE..CHANNELS_OF_SEVEN => dma(Proc::Nine, rank - CHANNELS_OF_NINE),
+            CHANNELS_OF_SEVEN..ARM9 => dma(Proc::Seven, rank - CHANNELS_OF_SEVEN),
+            ARM9 => Actor::Processor(Proc::Nine),
             _ => Actor::Processor(Proc::Seven),
         }
     }
@@ -83,30 +87,30 @@ impl Actor {
         ensures within { result < 24 }
     {
         match self {
-            Actor::KeyScript => 0,
-            Actor::Video => 1,
+            Actor::KeyScript => KEY_SCRIPT,
+            Actor::Video => VIDEO,
             Actor::Timer {
                 proc: Proc::Nine,
                 number,
-            } => 2 + number,
+            } => TIMERS_OF_NINE + number,
             Actor::Timer {
                 proc: Proc::Seven,
                 number,
-            } => 6 + number,
-            Actor::Divider => 10,
-            Actor::SquareRoot => 11,
-            Actor::Geometry => 12,
-            Actor::Card => 13,
+            } => TIMERS_OF_SEVEN + number,
+            Actor::Divider => DIVIDER,
+            Actor::SquareRoot => SQUARE_ROOT,
+            Actor::Geometry => GEOMETRY,
+            Actor::Card => CARD,
             Actor::Dma {
                 proc: Proc::Nine,
                 channel,
-            } => 14 + channel,
+            } => CHANNELS_OF_NINE + channel,
             Actor::Dma {
                 proc: Proc::Seven,
                 channel,
-            } => 18 + channel,
-            Actor::Processor(Proc::Nine) => 22,
-            Actor::Processor(Proc::Seven) => 23,
+            } => CHANNELS_OF_SEVEN + channel,
+            Actor::Processor(Proc::Nine) => ARM9,
+            Actor::Processor(Proc::Seven) => ARM7,
         }
     }
 }

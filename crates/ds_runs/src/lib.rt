@@ -23,6 +23,7 @@
 
 mod actors;
 mod order;
+pub mod ranks;
 
 pub use actors::Actor;
 pub use order::{earlier, earlier_than, entry, later_than};

@@ -11,7 +11,7 @@ ghost use Rattle.ds_ports.specs.Inside.{first_with};
 
 use crate::units::Units;
 use ds_base::{Due, Proc, Tick};
-use ds_runs::{Actor, earlier, earlier_than, entry};
+use ds_runs::{Actor, earlier, earlier_than, entry, ranks};
 
 /// The offset of GXSTAT.
 const GXSTAT: u32 = 0x600;
@@ -69,7 +69,7 @@ impl Units {
         if self.gx.stalled() {
             return None;
         }
-        let due = self.nine.first_channel(14)?;
+        let due = self.nine.first_channel(ranks::CHANNELS_OF_NINE)?;
         Some(Due {
             tick: Tick(self.released.max(due.tick.0)),
             rank: due.rank,
@@ -126,16 +126,19 @@ impl Units {
     fn first_with(&self, geometry: Option<Tick>) -> Due
         ensures { Some result ≡ first_with geometry self.now }
     {
-        let mut first = earlier(self.first_channel_of_nine(), self.seven.first_channel(18));
-        first = earlier(entry(13, self.card.due()), first);
-        first = earlier(entry(12, geometry), first);
-        first = earlier(entry(11, self.root.due()), first);
-        first = earlier(entry(10, self.divider.due()), first);
-        first = earlier(self.seven.first_timer(6), first);
-        first = earlier(self.nine.first_timer(2), first);
+        let mut first = earlier(
+            self.first_channel_of_nine(),
+            self.seven.first_channel(ranks::CHANNELS_OF_SEVEN),
+        );
+        first = earlier(entry(ranks::CARD, self.card.due()), first);
+        first = earlier(entry(ranks::GEOMETRY, geometry), first);
+        first = earlier(entry(ranks::SQUARE_ROOT, self.root.due()), first);
+        first = earlier(entry(ranks::DIVIDER, self.divider.due()), first);
+        first = earlier(self.seven.first_timer(ranks::TIMERS_OF_SEVEN), first);
+        first = earlier(self.nine.first_timer(ranks::TIMERS_OF_NINE), first);
         let video = Due {
             tick: self.video.due(),
-            rank: 1,
+            rank: ranks::VIDEO,
         };
         earlier_than(video, first)
     }

@@ -1,3 +1,4 @@
 pub mod Covering
 pub mod Kept
+pub mod MainPast
 pub mod SavedLaws

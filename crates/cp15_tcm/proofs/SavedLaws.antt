@@ -1,4 +1,4 @@
-use Rattle.std.proofs.Common.{rules, ℕ, ◌≡◌, ◌<◌, ◌≤◌, ◌^◌, ◌==◌, true, bit_and, refl, sym, ◌∙◌, ap, subst, arith}
+use Rattle.std.proofs.Common.{rules, ℕ, ◌≡◌, ◌<◌, ◌≤◌, ◌^◌, ◌==◌, true, bit_and, refl, subst, arith}
 use Rattle.std.specs.Int.Bits.{and_le_r}
 use Rattle.cp15_tcm.specs.Registers.{Cp15State, IsCp15, control_mask, dtcm_mask, itcm_mask}
 use Rattle.cp15_tcm.specs.Saved.{Cp15sAreSaved, cp15_format}

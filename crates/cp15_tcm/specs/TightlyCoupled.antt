@@ -1,4 +1,4 @@
-use Rattle.std.specs.Prelude.{ℕ, ◌+◌, ◌-◌, ◌*◌, ◌/◌, ◌%◌, ◌^◌, ◌&&◌, ◌||◌, not, nat_le, nat_lt, Bool, if◌then◌else◌, min}
+use Rattle.std.specs.Prelude.{ℕ, ◌≡◌, ◌≤◌, ◌+◌, ◌-◌, ◌*◌, ◌/◌, ◌%◌, ◌^◌, ◌&&◌, ◌||◌, not, nat_le, nat_lt, Bool, if◌then◌else◌, min}
 use Rattle.ds_base.specs.Bits.{bit, bits}
 use Rattle.cp15_tcm.specs.Registers.{Cp15State}
 use Rattle.cp15_tcm.specs.declared.answers.Tcm.{Tcm}
@@ -34,3 +34,15 @@ tcm_of s at writing fetching =
     if in_itcm s at writing then Itcm (at % 0x8000)
     else (if not fetching && in_dtcm s at writing then Dtcm ((at - dtcm_base s.dtcm) % 0x4000)
     else Past)
+
+-- main memory (GBATEK, "DS Memory Map") lies past both from its first address up to this one of it
+abbrev pub main_first : ℕ
+main_first = 0x02000000
+
+abbrev pub main_last : ℕ
+main_last = 0x02FFFFFF
+
+pub record IsMainPast (s : Cp15State) (at : ℕ) (writing fetching : Bool) : Type 0 where
+  pub from : main_first ≤ at
+  pub upto : at ≤ main_last
+  pub past : (a : ℕ) → main_first ≤ a → a ≤ at → tcm_of s a writing fetching ≡ Past

@@ -1,13 +1,13 @@
 //! CP15.
 
-ghost use Rattle.std.specs.Prelude.{◌≡◌, ◌<◌};
+ghost use Rattle.std.specs.Prelude.{◌≡◌, ◌↔◌, ◌<◌, false, true};
 ghost use Rattle.cp15_tcm.specs.Registers.{Cp15State, IsCp15, cp15_at_boot, register_of, register_read, vectors_of, Writes};
-ghost use Rattle.cp15_tcm.specs.TightlyCoupled.{tcm_of};
+ghost use Rattle.cp15_tcm.specs.TightlyCoupled.{tcm_of, IsMainPast};
 
 mod saved;
 
 use crate::answers::{Mcr, Tcm};
-use crate::windows::Windows;
+use crate::windows::{MAIN_FIRST, Windows};
 use ds_base::{DTCM_BYTES, ITCM_BYTES, LeftKind, Stop};
 pub use saved::saved_laws;
 use std::marker::Model;
@@ -140,6 +140,30 @@ impl Cp15 {
             return Tcm::Dtcm(offset % DTCM_BYTES as u32);
         }
         Tcm::Past
+    }
+
+    /// Whether for fetches main memory lies past both tightly coupled memories from its first address up to this one of it.
+    #[inline(always)]
+    pub fn is_main_fetch(&self, at: u32) -> bool
+        ensures { (result ≡ true) ↔ IsMainPast self.now at false true }
+    {
+        at.wrapping_sub(MAIN_FIRST) < self.windows.main_fetch
+    }
+
+    /// Whether it does for reads.
+    #[inline(always)]
+    pub fn is_main_read(&self, at: u32) -> bool
+        ensures { (result ≡ true) ↔ IsMainPast self.now at false false }
+    {
+        at.wrapping_sub(MAIN_FIRST) < self.windows.main_read
+    }
+
+    /// Whether it does for writes.
+    #[inline(always)]
+    pub fn is_main_write(&self, at: u32) -> bool
+        ensures { (result ≡ true) ↔ IsMainPast self.now at true false }
+    {
+        at.wrapping_sub(MAIN_FIRST) < self.windows.main_write
     }
 
     /// Does nothing; its contract states what holds of CP15 at every time: its registers have only the bits that they keep.

@@ -158,8 +158,9 @@ impl Parts {
                 fetched_by_nine(
                     &nine.cp15, &self.map, &self.io, &nine.itcm, &nine.dtcm, at, width,
                 )
+                .number
             }
-            Proc::Seven => self.map.fetch(&self.io, Proc::Seven, at, width),
+            Proc::Seven => self.map.fetch(&self.io, Proc::Seven, at, width).number,
         }
     }
 }

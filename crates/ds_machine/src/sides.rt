@@ -28,7 +28,7 @@ use arm7_exec::execute7;
 use arm9_exec::{in_rom, move_if, move_of};
 use cp15_tcm::{Cp15, Tcm};
 use ds_base::{Arch, Proc, Width};
-use ds_map::{NineView, SevenView, fetch_wait_of_nine, fetched_by_nine, wait_at};
+use ds_map::{Given, NineView, SevenView, fetched_by_nine};
 use ds_places::{is_own, is_seven_rom};
 use ds_ports::Io;
 
@@ -62,14 +62,11 @@ pub trait Side {
     fn arch(&self) -> Arch
         ensures { result ≡ side.arch };
 
-    /// What is fetched at an address; all stays as it is.
-    fn fetched(&self, at: u32, width: Width) -> u32
-        ensures { result ≡ memory.fetch_value (state self.now) at width };
-
-    /// How many ticks a fetch at an address waits.
-    fn fetch_wait(&self, at: u32, width: Width) -> u32
-        ensures value { result ≡ side.wait (state self.now) (Fetch at width) }
-        ensures most { result ≤ 8 };
+    /// What is fetched at an address, and how many ticks that waits; all stays as it is.
+    fn fetched(&self, at: u32, width: Width) -> Given
+        ensures number { result.number ≡ memory.fetch_value (state self.now) at width }
+        ensures waits { result.waits ≡ side.wait (state self.now) (Fetch at width) }
+        ensures most { result.waits ≤ 8 };
 
     /// How many ticks its accesses of data waited since it was made.
     fn waited(&self) -> u32
@@ -211,13 +208,8 @@ impl Side for NineView<'_> {
     }
 
     #[inline(always)]
-    fn fetched(&self, at: u32, width: Width) -> u32 {
+    fn fetched(&self, at: u32, width: Width) -> Given {
         fetched_by_nine(self.cp, self.map, self.io, self.itcm, self.dtcm, at, width)
-    }
-
-    #[inline(always)]
-    fn fetch_wait(&self, at: u32, width: Width) -> u32 {
-        fetch_wait_of_nine(self.cp, self.io, at, width)
     }
 
     #[inline(always)]
@@ -296,13 +288,8 @@ impl Side for SevenView<'_> {
     }
 
     #[inline(always)]
-    fn fetched(&self, at: u32, width: Width) -> u32 {
+    fn fetched(&self, at: u32, width: Width) -> Given {
         self.map.fetch(self.io, Proc::Seven, at, width)
-    }
-
-    #[inline(always)]
-    fn fetch_wait(&self, at: u32, width: Width) -> u32 {
-        wait_at(self.io, Proc::Seven, at, width)
     }
 
     #[inline(always)]

@@ -1,7 +1,9 @@
 //! The step of a processor over what it reaches, and of it what is fast: one function each for both processors.
 
-ghost use Rattle.std.specs.Prelude.{◌≡◌, ◌<◌, ◌≤◌, ◌%◌, ◌^◌, false, true, IfSome};
+ghost use Rattle.std.specs.Prelude.{◌≡◌, ◌<◌, ◌≤◌, ◌%◌, ◌^◌, if◌then◌else◌, false, true, IfSome};
+ghost use Rattle.arm_core.specs.Registers.{is_thumb};
 ghost use Rattle.arm_core.specs.Steps.{enters, fetched};
+ghost use Rattle.ds_base.specs.declared.memories.Width.TheVariants.{Half, Word};
 ghost use Rattle.arm_core.specs.declared.outcomes.Stepped.TheVariants.{Cost};
 ghost use Rattle.decode_cache.specs.Known.{arch_of};
 ghost use Rattle.arm_ops.specs.Operations.{is_other, operation_of, HasOperation};
@@ -18,6 +20,7 @@ use arm_exec::{Fetched, decoded_half, decoded_word, enters, interrupt};
 use arm_ops::{Operation, access_made, is_other, loads};
 use decode_cache::Decoder;
 use ds_base::Width;
+use ds_map::Given;
 
 /// A half of Thumb code at an address, decoded.
 #[inline(always)]
@@ -28,22 +31,37 @@ fn half_at<const VERSION: u32>(decoder: &mut Decoder<VERSION>, at: u32, half: u3
     decoder.thumb_operation(at, (half % 0x1_0000) as u16)
 }
 
-/// What is fetched at r15, decoded.
+/// What is fetched at r15, and how many ticks that waits.
+#[inline(always)]
+fn next_fetch<V: Side>(s: &Registers, view: &V) -> Given
+    ensures number { result.number ≡ V.memory.fetch_value (V.state view.now) s.now.pc (if is_thumb s.now then Half else Word) }
+    ensures waits { result.waits ≡ V.side.wait (V.state view.now) (next_fetch s.now) }
+    ensures most { result.waits ≤ 8 }
+{
+    let width = if s.is_thumb() {
+        Width::Half
+    } else {
+        Width::Word
+    };
+    view.fetched(s.pc(), width)
+}
+
+/// What was fetched at r15, decoded.
 #[inline(always)]
 fn next_operation<'a, V: Side, const VERSION: u32>(
     s: &Registers,
     decoder: &'a mut Decoder<VERSION>,
     view: &V,
+    number: u32,
 ) -> &'a Operation
     requires version { arch_of VERSION ≡ V.side.arch }
+    requires number { number ≡ V.memory.fetch_value (V.state view.now) s.now.pc (if is_thumb s.now then Half else Word) }
     ensures operation { result.now ≡ operation_of (fetched V.memory V.side.arch s.now (V.state view.now)).instr }
     ensures fields { HasOperation result.now }
 {
+    let _ = view;
     let at = s.pc();
-    let thumb = s.is_thumb();
-    let width = if thumb { Width::Half } else { Width::Word };
-    let number = view.fetched(at, width);
-    if thumb {
+    if s.is_thumb() {
         half_at(decoder, at, number)
     } else {
         decoder.arm_operation(at, number)
@@ -60,23 +78,9 @@ fn next_decoded<V: Side>(s: &Registers, view: &V) -> Fetched
     let at = s.pc();
     let arch = view.arch();
     if s.is_thumb() {
-        return decoded_half(arch, view.fetched(at, Width::Half));
+        return decoded_half(arch, view.fetched(at, Width::Half).number);
     }
-    decoded_word(arch, view.fetched(at, Width::Word))
-}
-
-/// How many ticks the fetch at r15 waits.
-#[inline(always)]
-fn fetch_wait<V: Side>(s: &Registers, view: &V) -> u32
-    ensures value { result ≡ V.side.wait (V.state view.now) (next_fetch s.now) }
-    ensures most { result ≤ 8 }
-{
-    let width = if s.is_thumb() {
-        Width::Half
-    } else {
-        Width::Word
-    };
-    view.fetch_wait(s.pc(), width)
+    decoded_word(arch, view.fetched(at, Width::Word).number)
 }
 
 /// The step of an instruction that isn't decoded, where no interrupt is entered.
@@ -151,15 +155,15 @@ pub fn take_in_view<V: Side, const VERSION: u32>(
         let stepped = Stepped::Cost(interrupt(view.arch(), s, base));
         return Came { stepped, waits: 0 };
     }
-    let fetch = fetch_wait(s, view);
-    let next = next_operation(s, decoder, view);
+    let fetch = next_fetch(s, view);
+    let next = next_operation(s, decoder, view, fetch.number);
     if is_other(next) {
         let stepped = take_other(s, view, line);
-        let waits = fetch + view.waited();
+        let waits = fetch.waits + view.waited();
         return Came { stepped, waits };
     }
     let stepped = take_operation(s, view, line, next);
-    let waits = fetch + view.waited();
+    let waits = fetch.waits + view.waited();
     Came { stepped, waits }
 }
 
@@ -223,7 +227,8 @@ pub fn take_fast_in_view<V: Side, const VERSION: u32>(
             leaves: false,
         };
     }
-    let next = next_operation(s, decoder, view);
+    let fetch = next_fetch(s, view);
+    let next = next_operation(s, decoder, view, fetch.number);
     if ahead && !access_stays(s, view, next) {
         return Fast {
             clocks: 0,
@@ -231,9 +236,8 @@ pub fn take_fast_in_view<V: Side, const VERSION: u32>(
             leaves: true,
         };
     }
-    let fetch = fetch_wait(s, view);
     let clocks = view.run_fast(s, next);
-    let waits = fetch + view.waited();
+    let waits = fetch.waits + view.waited();
     Fast {
         clocks,
         waits,

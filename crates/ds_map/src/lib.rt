@@ -23,5 +23,5 @@ mod moves;
 mod views;
 
 pub use blocks::Block;
-pub use maps::{Map, wait_at};
-pub use views::{NineView, SevenView, fetch_wait_of_nine, fetched_by_nine};
+pub use maps::{Given, Map, wait_at};
+pub use views::{NineView, SevenView, fetched_by_nine};

@@ -1,10 +1,16 @@
 //! The map.
 
-ghost use Rattle.std.specs.Prelude.{◌≡◌, ◌<◌, ◌≤◌, ◌^◌, slice_index, length, false, true, ℕ, IfOk, IfSome, Some};
+ghost use Rattle.std.specs.Prelude.{◌≡◌, ◌<◌, ◌≤◌, ◌^◌, slice_index, length, false, true, ℕ, IfOk, IfSome, None, Some};
 ghost use Rattle.ds_base.specs.Memories.{memory_size};
 ghost use Rattle.ds_base.specs.declared.memories.Memory.TheVariants.{Main, Shared, Own7, Palette, Oam};
 ghost use Rattle.ds_base.specs.Numbers.{aligned_down, number_at, with_number};
-ghost use Rattle.ds_places.specs.AddressTables.{IsInside};
+ghost use Rattle.ds_places.specs.AddressTables.{place_of, IsInside};
+ghost use Rattle.ds_places.specs.declared.kinds.Place.TheVariants.{Cell, Port};
+ghost use Rattle.ds_places.specs.Waits.{wait_of};
+ghost use Rattle.cp15_tcm.specs.TightlyCoupled.{main_first, main_last};
+ghost use Rattle.ds_base.specs.declared.processors.Proc.{Proc};
+ghost use Rattle.ds_base.specs.declared.ticks.Tick.{Tick};
+ghost use Rattle.ds_ports.specs.Io.{IoState};
 ghost use Rattle.ds_map.specs.Maps.{blank_memories, cells_of, is_reached, map_seen, reached, reaches, unreached_oam, unreached_palette, unreached_wram, with_cells};
 ghost use Rattle.ds_base.specs.Schedules.{IsEarly};
 ghost use Rattle.ds_ports.specs.Io.{video_done};
@@ -18,11 +24,20 @@ use crate::blocks::Block;
 use ds_base::{
     MAIN_BYTES, Memory, OAM_BYTES, OWN7_BYTES, PALETTE_BYTES, Proc, SHARED_BYTES, Stop, Tick, Width,
 };
-use ds_places::{Place, main_cell, own_cell, place, port_at, rom_word, wait};
+use ds_places::{MAIN_FIRST, Place, is_main, main_cell, own_cell, place, port_at, rom_word, wait};
 use ds_ports::{Io, part};
 use std::alloc::{AllocError, Global};
 use std::marker::Model;
 use video2d::Shown;
+
+/// A number that is read or fetched, and how many ticks the access waits.
+#[derive(Clone, Copy)]
+pub struct Given {
+    /// The number.
+    pub number: u32,
+    /// The ticks.
+    pub waits: u32,
+}
 
 /// The memories past ARM9's tightly coupled ones. An access of them is handed the units behind the ports, which have video memory and WRAMCNT.
 #[derive(Drop)]
@@ -124,6 +139,58 @@ impl Map {
         }
     }
 
+    /// What a processor reads or fetches at an address of main memory, and how long that waits.
+    #[inline(always)]
+    #[tactic(auto, unfolding(crate::specs::Accesses::map_value, crate::specs::Accesses::map_read, crate::specs::Accesses::map_fetched, crate::specs::Waits::wait_at))]
+    pub fn main_given(&self, proc: Proc, at: u32, width: Width) -> Given
+        requires from { main_first ≤ at }
+        requires upto { at ≤ main_last }
+        ensures read { (now : Tick) → (io : IoState) → result.number ≡ map_value proc now (map_seen proc self.now io) at width }
+        ensures fetched { (io : IoState) → result.number ≡ map_fetched proc (map_seen proc self.now io) at width }
+        ensures next { (now : Tick) → (io : IoState) → map_read proc now (map_seen proc self.now io) at width ≡ map_seen proc self.now io }
+        ensures waits { (wramcnt : ℕ) → result.waits ≡ wait_at proc wramcnt at width }
+        ensures most { result.waits ≤ 8 }
+    {
+        let (memory, at) = (Memory::Main, main_at(at));
+        Given {
+            number: self.main.number(at as usize, width),
+            waits: wait(proc, Place::Cell { memory, at }, width),
+        }
+    }
+
+    /// What ARM7 reads or fetches at a cell of its own work RAM, and how long that waits.
+    #[inline(always)]
+    fn own_given(&self, proc: Proc, at: u32, width: Width) -> Given
+        requires { at < memory_size Own7 }
+        ensures number { result.number ≡ number_at width self.now.wram (aligned_down width at) }
+        ensures waits { result.waits ≡ wait_of proc (Cell Own7 at) width }
+        ensures most { result.waits ≤ 8 }
+    {
+        let memory = Memory::Own7;
+        Given {
+            number: self.wram.number(at as usize, width),
+            waits: wait(proc, Place::Cell { memory, at }, width),
+        }
+    }
+
+    /// Puts a number at an address of main memory; the result is how long that waits.
+    #[inline(always)]
+    #[tactic(auto, unfolding(crate::specs::Accesses::map_refusal, crate::specs::Accesses::map_written, crate::specs::Waits::wait_at))]
+    pub fn put_main(&mut self, proc: Proc, at: u32, width: Width, value: u32) -> u32
+        requires from { main_first ≤ at }
+        requires upto { at ≤ main_last }
+        ensures refusal { (io : IoState) → map_guarded_refusal proc (map_seen proc self.old io) at width value ≡ None }
+        ensures next { (now : Tick) → (io : IoState) → map_seen proc self.new io ≡ map_guarded proc now (map_seen proc self.old io) at width value }
+        ensures wram { unreached_wram proc self.new ≡ unreached_wram proc self.old }
+        ensures palette { unreached_palette proc self.new ≡ unreached_palette proc self.old }
+        ensures oam { unreached_oam proc self.new ≡ unreached_oam proc self.old }
+        ensures waits { (wramcnt : ℕ) → result ≡ wait_at proc wramcnt at width }
+    {
+        let (memory, at) = (Memory::Main, main_at(at));
+        self.main.set_number(at as usize, width, value);
+        wait(proc, Place::Cell { memory, at }, width)
+    }
+
     /// What is read at a place at a tick, and the read.
     #[inline(always)]
     #[tactic(auto, using(crate::proofs::Reached::cells_reached))]
@@ -223,35 +290,42 @@ impl Map {
         self.read_at(io, proc, now, place, width)
     }
 
-    /// The same as `read_any`. A port is found at once.
+    /// What a processor reads at a port at a tick, and the read.
     #[inline(never)]
-    #[tactic(auto, unfolding(crate::specs::Accesses::map_value, crate::specs::Accesses::map_read))]
-    fn read_past(&self, io: &mut Io, proc: Proc, now: Tick, at: u32, width: Width) -> u32
-        requires { IsEarly (Some now) }
-        ensures value { result ≡ map_value proc now (map_seen proc self.now io.old) at width }
-        ensures next { map_seen proc self.now io.new ≡ map_read proc now (map_seen proc self.now io.old) at width }
+    fn read_port(&self, io: &mut Io, proc: Proc, now: Tick, port: u32, width: Width) -> u32
+        requires inside { port < 2 ^ 24 }
+        requires early { IsEarly (Some now) }
+        ensures value { result ≡ value_at proc now (Port port) (map_seen proc self.now io.old) width }
+        ensures next { map_seen proc self.now io.new ≡ after_read_at proc now (Port port) (map_seen proc self.now io.old) width }
     {
-        if let Some(port) = port_at(at) {
-            return io.take(proc, now, aligned_down(width, port), width);
-        }
-        self.read_any(io, proc, now, at, width)
+        io.take(proc, now, aligned_down(width, port), width)
     }
 
-    /// What a processor reads at an address at a tick, past the tightly coupled memories, and the read: of a port it may change what stands there.
+    /// What a processor reads at an address at a tick, past the tightly coupled memories, how long it waits, and the read: of a port it may change
+    /// what stands there.
     #[inline(always)]
-    #[tactic(auto, unfolding(crate::specs::Accesses::map_value, crate::specs::Accesses::map_read))]
-    pub fn read(&self, io: &mut Io, proc: Proc, now: Tick, at: u32, width: Width) -> u32
+    #[tactic(auto, unfolding(crate::specs::Accesses::map_value, crate::specs::Accesses::map_read, crate::specs::Waits::wait_at))]
+    pub fn read(&self, io: &mut Io, proc: Proc, now: Tick, at: u32, width: Width) -> Given
         requires { IsEarly (Some now) }
-        ensures value { result ≡ map_value proc now (map_seen proc self.now io.old) at width }
+        ensures value { result.number ≡ map_value proc now (map_seen proc self.now io.old) at width }
         ensures next { map_seen proc self.now io.new ≡ map_read proc now (map_seen proc self.now io.old) at width }
+        ensures waits { result.waits ≡ wait_at proc io.old.wramcnt at width }
+        ensures most { result.waits ≤ 8 }
     {
-        if let Some(cell) = main_cell(at) {
-            return self.main.number(cell as usize, width);
+        if is_main(at) {
+            return self.main_given(proc, at, width);
         }
-        if let Some(cell) = own_cell(proc, at) {
-            return self.wram.number(cell as usize, width);
+        if let Some(at) = own_cell(proc, at) {
+            return self.own_given(proc, at, width);
         }
-        self.read_past(io, proc, now, at, width)
+        if let Some(port) = port_at(at) {
+            let number = self.read_port(io, proc, now, port, width);
+            let waits = wait(proc, Place::Port(port), width);
+            return Given { number, waits };
+        }
+        let waits = wait_anywhere(io, proc, at, width);
+        let number = self.read_any(io, proc, now, at, width);
+        Given { number, waits }
     }
 
     /// What a processor fetches at an address, wherever it is.
@@ -263,19 +337,23 @@ impl Map {
         self.fetch_at(io, proc, place(proc, io.wramcnt(), at), width)
     }
 
-    /// What a processor fetches at an address, past the tightly coupled memories. From a port it is 0.
+    /// What a processor fetches at an address, past the tightly coupled memories, and how long it waits. From a port it is 0.
     #[inline(always)]
-    #[tactic(auto, unfolding(crate::specs::Accesses::map_fetched))]
-    pub fn fetch(&self, io: &Io, proc: Proc, at: u32, width: Width) -> u32
-        ensures { result ≡ map_fetched proc (map_seen proc self.now io.now) at width }
+    #[tactic(auto, unfolding(crate::specs::Accesses::map_fetched, crate::specs::Waits::wait_at))]
+    pub fn fetch(&self, io: &Io, proc: Proc, at: u32, width: Width) -> Given
+        ensures number { result.number ≡ map_fetched proc (map_seen proc self.now io.now) at width }
+        ensures waits { result.waits ≡ wait_at proc io.now.wramcnt at width }
+        ensures most { result.waits ≤ 8 }
     {
-        if let Some(cell) = main_cell(at) {
-            return self.main.number(cell as usize, width);
+        if is_main(at) {
+            return self.main_given(proc, at, width);
         }
-        if let Some(cell) = own_cell(proc, at) {
-            return self.wram.number(cell as usize, width);
+        if let Some(at) = own_cell(proc, at) {
+            return self.own_given(proc, at, width);
         }
-        self.fetch_any(io, proc, at, width)
+        let number = self.fetch_any(io, proc, at, width);
+        let waits = wait_anywhere(io, proc, at, width);
+        Given { number, waits }
     }
 
     /// Writes a processor's value at an address at a tick, wherever it is, unless it is refused or ignored.
@@ -301,6 +379,28 @@ impl Map {
         self.write_at(io, proc, now, place, width, value)
     }
 
+    /// Puts a number at an address of main memory, or for ARM7 of its own work RAM, and tells how long that waits; none elsewhere.
+    #[inline(always)]
+    #[tactic(auto, unfolding(crate::specs::Accesses::map_refusal, crate::specs::Accesses::map_written, crate::specs::Waits::wait_at))]
+    pub fn put_near(&mut self, proc: Proc, at: u32, width: Width, value: u32) -> Option<u32>
+        ensures none { result ≡ None → self.new ≡ self.old }
+        ensures refusal { IfSome result (λ _. (io : IoState) → map_guarded_refusal proc (map_seen proc self.old io) at width value ≡ None) }
+        ensures next { IfSome result (λ _. (now : Tick) → (io : IoState) → map_seen proc self.new io
+            ≡ map_guarded proc now (map_seen proc self.old io) at width value) }
+        ensures wram { unreached_wram proc self.new ≡ unreached_wram proc self.old }
+        ensures palette { unreached_palette proc self.new ≡ unreached_palette proc self.old }
+        ensures oam { unreached_oam proc self.new ≡ unreached_oam proc self.old }
+        ensures waits { IfSome result (λ waits. (wramcnt : ℕ) → waits ≡ wait_at proc wramcnt at width) }
+    {
+        if is_main(at) {
+            return Some(self.put_main(proc, at, width, value));
+        }
+        let at = own_cell(proc, at)?;
+        let memory = Memory::Own7;
+        self.wram.set_number(at as usize, width, value);
+        Some(wait(proc, Place::Cell { memory, at }, width))
+    }
+
     /// Writes a processor's value at an address at a tick, past the tightly coupled memories, unless it is refused: exactly where it is a write of
     /// a port that refuses it. Then nothing is written. What the processor doesn't reach stays. A write of a port by ARM9 is ignored while more than
     /// 320 entries wait for geometry.
@@ -322,12 +422,7 @@ impl Map {
         ensures palette { unreached_palette proc self.new ≡ unreached_palette proc self.old }
         ensures oam { unreached_oam proc self.new ≡ unreached_oam proc self.old }
     {
-        if let Some(cell) = main_cell(at) {
-            self.main.set_number(cell as usize, width, value);
-            return None;
-        }
-        if let Some(cell) = own_cell(proc, at) {
-            self.wram.set_number(cell as usize, width, value);
+        if self.put_near(proc, at, width, value).is_some() {
             return None;
         }
         self.write_any(io, proc, now, at, width, value)
@@ -394,6 +489,18 @@ impl Map {
             Memory::Itcm | Memory::Dtcm | Memory::Vram => 0,
         }
     }
+}
+
+/// The cell of main memory at an address of it.
+#[inline(always)]
+#[tactic(auto, using(ds_places::proofs::Rows::main_place))]
+fn main_at(at: u32) -> u32
+    requires from { main_first ≤ at }
+    requires upto { at ≤ main_last }
+    ensures place { (proc : Proc) → (wramcnt : ℕ) → place_of proc wramcnt at ≡ Cell Main result }
+    ensures inside { result < memory_size Main }
+{
+    (at - MAIN_FIRST) % MAIN_BYTES as u32
 }
 
 /// How long an access of a processor's at an address waits, wherever it is.

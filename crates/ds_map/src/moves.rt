@@ -34,9 +34,9 @@ impl Map {
         ensures waits { result.waits ≡ unit_waits proc now unit (map_seen proc self.now io.old) }
         ensures most { result.waits ≤ most_waits }
     {
-        let first = wait_at(io, proc, unit.from, unit.width);
-        let value = self.read(io, proc, now, unit.from, unit.width);
-        let waits = first + wait_at(io, proc, unit.to, unit.width);
+        let read = self.read(io, proc, now, unit.from, unit.width);
+        let waits = read.waits + wait_at(io, proc, unit.to, unit.width);
+        let value = read.number;
         UnitRead { value, waits }
     }
 

@@ -10,7 +10,7 @@ ghost use Rattle.ds_map.specs.Waits.{tcm_wait};
 ghost use Rattle.cp15_tcm.specs.TightlyCoupled.{tcm_of};
 
 use crate::blocks::Block;
-use crate::maps::{Map, wait_at};
+use crate::maps::{Given, Map, wait_at};
 use arm_core::Bus;
 use cp15_tcm::{Cp15, Tcm};
 use ds_base::{DTCM_BYTES, ITCM_BYTES, Proc, Stop, Tick, Width};
@@ -46,23 +46,25 @@ impl Bus for SevenView<'_> {
 
     #[inline(always)]
     fn fetch(&mut self, at: u32, width: Width) -> u32 {
-        self.waits = self
-            .waits
-            .wrapping_add(wait_at(self.io, Proc::Seven, at, width));
-        self.map.fetch(self.io, Proc::Seven, at, width)
+        let given = self.map.fetch(self.io, Proc::Seven, at, width);
+        self.waits = self.waits.wrapping_add(given.waits);
+        given.number
     }
 
     #[inline(always)]
     fn read(&mut self, at: u32, width: Width) -> u32 {
-        self.waits = self
-            .waits
-            .wrapping_add(wait_at(self.io, Proc::Seven, at, width));
-        self.map.read(self.io, Proc::Seven, self.now, at, width)
+        let given = self.map.read(self.io, Proc::Seven, self.now, at, width);
+        self.waits = self.waits.wrapping_add(given.waits);
+        given.number
     }
 
     #[inline(always)]
     #[tactic(auto, using(crate::proofs::Guards::seven_refusal, crate::proofs::Guards::seven_written))]
     fn write(&mut self, at: u32, width: Width, value: u32) -> Option<Stop> {
+        if let Some(waits) = self.map.put_near(Proc::Seven, at, width, value) {
+            self.waits = self.waits.wrapping_add(waits);
+            return None;
+        }
         self.waits = self
             .waits
             .wrapping_add(wait_at(self.io, Proc::Seven, at, width));
@@ -71,7 +73,7 @@ impl Bus for SevenView<'_> {
     }
 }
 
-/// What ARM9 fetches at an address, whatever the tick.
+/// What ARM9 fetches at an address, whatever the tick, and how many ticks that waits: at most 8.
 #[inline(always)]
 pub fn fetched_by_nine(
     cp: &Cp15,
@@ -81,8 +83,8 @@ pub fn fetched_by_nine(
     dtcm: &Block<DTCM_BYTES>,
     at: u32,
     width: Width,
-) -> u32
-    ensures { (now : Tick) → result
+) -> Given
+    ensures number { (now : Tick) → result.number
         ≡ nine_memory.fetch_value (record {
           map = map_seen Nine map.now io.now;
           cp15 = cp.now;
@@ -90,12 +92,25 @@ pub fn fetched_by_nine(
           dtcm = dtcm.now;
           now = now;
         }) at width }
+    ensures waits { result.waits ≡ tcm_wait (tcm_of cp.now at false true) io.now.wramcnt at width }
+    ensures most { result.waits ≤ 8 }
 {
+    if cp.is_main_fetch(at) {
+        return map.main_given(Proc::Nine, at, width);
+    }
     match cp.tcm_place(at, false, true) {
-        Tcm::Itcm(place) => itcm.number(place as usize, width),
-        Tcm::Dtcm(place) => dtcm.number(place as usize, width),
+        Tcm::Itcm(place) => at_once(itcm.number(place as usize, width)),
+        Tcm::Dtcm(place) => at_once(dtcm.number(place as usize, width)),
         Tcm::Past => map.fetch(io, Proc::Nine, at, width),
     }
+}
+
+/// A number that is there without a wait.
+#[inline(always)]
+fn at_once(number: u32) -> Given
+    ensures { result ≡ record { number = number; waits = 0 } }
+{
+    Given { number, waits: 0 }
 }
 
 /// How many ticks an access of ARM9's at an address waits, where a tightly coupled memory answers or past both.
@@ -108,15 +123,6 @@ fn tcm_wait(io: &Io, tcm: Tcm, at: u32, width: Width) -> u32
         Tcm::Itcm(_) | Tcm::Dtcm(_) => 0,
         Tcm::Past => wait_at(io, Proc::Nine, at, width),
     }
-}
-
-/// How many ticks a fetch by ARM9 at an address waits: at most 8.
-#[inline(always)]
-pub fn fetch_wait_of_nine(cp: &Cp15, io: &Io, at: u32, width: Width) -> u32
-    ensures value { result ≡ tcm_wait (tcm_of cp.now at false true) io.now.wramcnt at width }
-    ensures most { result ≤ 8 }
-{
-    tcm_wait(io, cp.tcm_place(at, false, true), at, width)
 }
 
 /// What ARM9 reaches: CP15, its tightly coupled memories, where CP15 says, and behind them the map. As a bus it adds up how long its accesses wait,
@@ -160,28 +166,33 @@ impl Bus for NineView<'_> {
 
     #[inline(always)]
     fn fetch(&mut self, at: u32, width: Width) -> u32 {
-        let tcm = self.cp.tcm_place(at, false, true);
-        self.waits = self.waits.wrapping_add(tcm_wait(self.io, tcm, at, width));
-        match tcm {
-            Tcm::Itcm(place) => self.itcm.number(place as usize, width),
-            Tcm::Dtcm(place) => self.dtcm.number(place as usize, width),
-            Tcm::Past => self.map.fetch(self.io, Proc::Nine, at, width),
-        }
+        let given = fetched_by_nine(self.cp, self.map, self.io, self.itcm, self.dtcm, at, width);
+        self.waits = self.waits.wrapping_add(given.waits);
+        given.number
     }
 
     #[inline(always)]
     fn read(&mut self, at: u32, width: Width) -> u32 {
-        let tcm = self.cp.tcm_place(at, false, false);
-        self.waits = self.waits.wrapping_add(tcm_wait(self.io, tcm, at, width));
-        match tcm {
-            Tcm::Itcm(place) => self.itcm.number(place as usize, width),
-            Tcm::Dtcm(place) => self.dtcm.number(place as usize, width),
-            Tcm::Past => self.map.read(self.io, Proc::Nine, self.now, at, width),
-        }
+        let given = if self.cp.is_main_read(at) {
+            self.map.main_given(Proc::Nine, at, width)
+        } else {
+            match self.cp.tcm_place(at, false, false) {
+                Tcm::Itcm(place) => at_once(self.itcm.number(place as usize, width)),
+                Tcm::Dtcm(place) => at_once(self.dtcm.number(place as usize, width)),
+                Tcm::Past => self.map.read(self.io, Proc::Nine, self.now, at, width),
+            }
+        };
+        self.waits = self.waits.wrapping_add(given.waits);
+        given.number
     }
 
     #[inline(always)]
     fn write(&mut self, at: u32, width: Width, value: u32) -> Option<Stop> {
+        if self.cp.is_main_write(at) {
+            let waits = self.map.put_main(Proc::Nine, at, width, value);
+            self.waits = self.waits.wrapping_add(waits);
+            return None;
+        }
         let tcm = self.cp.tcm_place(at, true, false);
         self.waits = self.waits.wrapping_add(tcm_wait(self.io, tcm, at, width));
         match tcm {

@@ -63,9 +63,9 @@ returns-clause-waits g c = λ some.
     let state = g.V.Side.state c.args.view.now in
     let s = c.args.s.now in
     let next = c.next_operation-next.result.now in
-    let first = c.fetch_wait-fetch.result in
+    let first = c.next_fetch-fetch.result.waits in
     let none : enters c.args.line s ≡ false = sym c.if-enters.ensures in
     ap (λ (n : ℕ). first + n) (c.waited.ensures ∙ c.run_fast-clocks.ensures.waits some
     ∙ decoded_waits memory side s state next (c.run_fast-clocks.ensures.known some) c.next_operation-next.ensures.operation)
-    ∙ ap (λ (n : ℕ). n + data_waits memory (side_step side) s state) c.fetch_wait-fetch.ensures.value
+    ∙ ap (λ (n : ℕ). n + data_waits memory (side_step side) s state) c.next_fetch-fetch.ensures.waits
     ∙ sym (waits_fetched memory side c.args.line s state none))

@@ -41,18 +41,6 @@ impl Parts {
         tick.0 < next_event.events_until.0 || tick.0 < self.fence(proc).0
     }
 
-    /// Whether a processor's next step may be taken before its turn, but for what it does.
-    #[inline(always)]
-    fn may_be_ahead(&self, next_event: NextEvent, proc: Proc, tick: Tick) -> bool
-        requires { IsNextEvent next_event self.now }
-        ensures { (result ≡ true) ↔ MayBeAhead tick self.now proc }
-    {
-        self.is_fetch_private(proc)
-            && !next_event.line(proc)
-            && self.is_deaf(proc)
-            && self.is_below_fence(next_event, proc, tick)
-    }
-
     /// Whether a processor's step that isn't the least acting one belongs to its turn, but for what it does.
     #[inline(always)]
     fn may_go_on(&self, next_event: NextEvent, proc: Proc, until: Tick, tick: Tick) -> bool
@@ -60,7 +48,11 @@ impl Parts {
         ensures no { result ≡ false → (until.0 ≤ tick.0) ⊎ (MayBeAhead tick self.now proc → ⊥) }
         ensures yes { result ≡ true → (tick.0 < until.0) × MayBeAhead tick self.now proc }
     {
-        self.may_be_ahead(next_event, proc, tick) && tick.0 < until.0
+        self.is_fetch_private(proc)
+            && !next_event.line(proc)
+            && self.is_deaf(proc)
+            && tick.0 < until.0
+            && self.is_below_fence(next_event, proc, tick)
     }
 
     /// One step of a processor's turn, where it is one of the fast path; by the first tick at which the processor isn't the least acting one any

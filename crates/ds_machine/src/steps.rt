@@ -38,12 +38,11 @@ fn next_fetch<V: Side>(s: &Registers, view: &V) -> Given
     ensures waits { result.waits ≡ V.side.wait (V.state view.now) (next_fetch s.now) }
     ensures most { result.waits ≤ 8 }
 {
-    let width = if s.is_thumb() {
-        Width::Half
-    } else {
-        Width::Word
-    };
-    view.fetched(s.pc(), width)
+    let at = s.pc();
+    if s.is_thumb() {
+        return view.fetched(at, Width::Half);
+    }
+    view.fetched(at, Width::Word)
 }
 
 /// What was fetched at r15, decoded.

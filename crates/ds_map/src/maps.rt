@@ -312,11 +312,11 @@ impl Map {
         ensures waits { result.waits ≡ wait_at proc io.old.wramcnt at width }
         ensures most { result.waits ≤ 8 }
     {
-        if is_main(at) {
-            return self.main_given(proc, at, width);
-        }
         if let Some(at) = own_cell(proc, at) {
             return self.own_given(proc, at, width);
+        }
+        if is_main(at) {
+            return self.main_given(proc, at, width);
         }
         if let Some(port) = port_at(at) {
             let number = self.read_port(io, proc, now, port, width);
@@ -345,11 +345,11 @@ impl Map {
         ensures waits { result.waits ≡ wait_at proc io.now.wramcnt at width }
         ensures most { result.waits ≤ 8 }
     {
-        if is_main(at) {
-            return self.main_given(proc, at, width);
-        }
         if let Some(at) = own_cell(proc, at) {
             return self.own_given(proc, at, width);
+        }
+        if is_main(at) {
+            return self.main_given(proc, at, width);
         }
         let number = self.fetch_any(io, proc, at, width);
         let waits = wait_anywhere(io, proc, at, width);
@@ -392,13 +392,15 @@ impl Map {
         ensures oam { unreached_oam proc self.new ≡ unreached_oam proc self.old }
         ensures waits { IfSome result (λ waits. (wramcnt : ℕ) → waits ≡ wait_at proc wramcnt at width) }
     {
+        if let Some(at) = own_cell(proc, at) {
+            let memory = Memory::Own7;
+            self.wram.set_number(at as usize, width, value);
+            return Some(wait(proc, Place::Cell { memory, at }, width));
+        }
         if is_main(at) {
             return Some(self.put_main(proc, at, width, value));
         }
-        let at = own_cell(proc, at)?;
-        let memory = Memory::Own7;
-        self.wram.set_number(at as usize, width, value);
-        Some(wait(proc, Place::Cell { memory, at }, width))
+        None
     }
 
     /// Writes a processor's value at an address at a tick, past the tightly coupled memories, unless it is refused: exactly where it is a write of

@@ -6,6 +6,7 @@ pub mod GxPorts
 pub mod Grows
 pub mod Dues
 pub mod Acting
+pub mod Silent
 pub mod Later
 pub mod Events
 pub mod Shows

@@ -23,10 +23,14 @@ any_armed dma =
     is_armed (channel_at dma.channels 0).cnt || is_armed (channel_at dma.channels 1).cnt || is_armed (channel_at dma.channels 2).cnt
     || is_armed (channel_at dma.channels 3).cnt
 
--- Geometry is due, and nobody hears of what it does: GXSTAT's selector is 0, so that no interrupt follows how much waits; it starts no channel of
--- ARM9's; and no stall holds ARM9 (GBATEK, "GXSTAT", "GXFIFO").
+-- Nobody hears of what geometry does, whether or not it is due: GXSTAT's selector is 0, so that no interrupt follows how much waits; it starts no
+-- channel of ARM9's; and no stall holds ARM9 (GBATEK, "GXSTAT", "GXFIFO").
+abbrev pub is_silent : IoState → Bool
+is_silent u = (u.gx.selector == 0) && (not (any_armed u.nine.dma) && not (is_stalled u.gx))
+
+-- geometry is due, and nobody hears of what it does
 abbrev pub is_quiet : IoState → Bool
-is_quiet u = is_some u.gx.due && ((u.gx.selector == 0) && (not (any_armed u.nine.dma) && not (is_stalled u.gx)))
+is_quiet u = is_some u.gx.due && is_silent u
 
 -- when an actor behind the ports is due that acts: all that are due do, but quiet geometry
 abbrev pub acting_io_due : actor.Actor → IoState → Option Tick

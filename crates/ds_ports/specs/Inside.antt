@@ -75,3 +75,9 @@ is_of_unit Auxspicnt = true
 is_of_unit CardWord = true
 is_of_unit CardData = true
 is_of_unit _ = false
+
+-- a register is geometry's: a write of it changes geometry alone
+abbrev pub is_of_geometry : Register → Bool
+is_of_geometry GxWord = true
+is_of_geometry GxCommand = true
+is_of_geometry _ = false

@@ -11,7 +11,7 @@ ghost use Rattle.vram_banks.specs.Cells.{vram_written};
 ghost use Rattle.ds_ports.specs.Acting.{acting_io_dues};
 ghost use Rattle.ds_ports.specs.Dues.{io_due};
 ghost use Rattle.ds_ports.specs.Guards.{is_overfull};
-ghost use Rattle.ds_ports.specs.Inside.{moves_dues};
+ghost use Rattle.ds_ports.specs.Inside.{is_of_geometry, moves_dues};
 ghost use Rattle.ds_ports.specs.ProcessorIo.{before_move};
 ghost use Rattle.ds_ports.specs.Registers.{after_write, card_word_taken, meaning_of};
 ghost use Rattle.ds_ports.specs.Io.{channel_moved, channel_put_back, geometry_swapped, io_at_boot, io_event, io_of, io_of_parts, is_settled, keys_pressed, settled, video_done, with_halted};
@@ -83,6 +83,14 @@ fn moves_dues(register: Register) -> bool
     )
 }
 
+/// Whether a register is one of geometry's: a write of it changes geometry alone.
+#[inline(always)]
+fn is_of_geometry(register: Register) -> bool
+    ensures { result ≡ is_of_geometry register }
+{
+    matches!(register, Register::GxWord | Register::GxCommand)
+}
+
 impl Io {
     /// The units at boot: no bank of video memory is enabled, all memory is zeros, no key is pressed, nothing is due, and no interrupt is
     /// raised.
@@ -144,7 +152,8 @@ impl Io {
     /// The event of an actor behind the ports that is due: a timer overflows and its interrupts are raised, a division or a square root is done, or
     /// the head command of geometry, which may end a stall: then ARM9's channels are due at the next tick or later; or the card gives the next word
     /// of the cartridge's file, which triggers its starter's channels, or ends a transfer without words, which raises an interrupt there. The
-    /// display's is told by `show`, a DMA channel's by `move_channel`.
+    /// display's is told by `show`, a DMA channel's by `move_channel`. Where nobody hears of what geometry does, before and after, what is kept stays.
+    #[tactic(auto, using(crate::proofs::Silent::event_moves_none, crate::proofs::Silent::event_settles_none))]
     pub fn event(&mut self, actor: Actor, file: &[u8])
         requires numbered { IsNumbered actor }
         requires due { IsSome (io_due actor self.old) }
@@ -152,8 +161,12 @@ impl Io {
         requires run { actor ≡ actors.Geometry → self.old.gx.geometry.numbers.run ≤ 2 ^ 56 }
         ensures { self.new ≡ io_event file.now actor self.old }
     {
-        self.settled = false;
+        let silent = actor == Actor::Geometry && self.units.is_silent();
         self.units.event(actor, file);
+        if silent && self.units.is_silent() {
+            return;
+        }
+        self.settled = false;
         self.first = self.units.find_acting();
     }
 
@@ -305,17 +318,23 @@ impl Io {
             .write_register(proc, now, register, number, value);
     }
 
-    /// The same, where it may change when something is due, or leave something to settle.
+    /// The same, where it may change when something is due, or leave something to settle. A write of geometry's does neither where nobody hears of
+    /// what it does, before and after: then what is kept stays.
     #[inline(never)]
+    #[tactic(auto, using(crate::proofs::Silent::geometry_written_moves_none, crate::proofs::Silent::geometry_written_settles_none))]
     fn write_moving(&mut self, proc: Proc, now: Tick, register: Register, number: u32, value: u32)
         requires number { number < (meaning_of register).count }
         requires early { IsEarly (Some now) }
         requires room { is_overfull proc self.old ≡ false }
         ensures { self.new ≡ after_write proc now self.old register number value }
     {
-        self.settled = false;
+        let silent = is_of_geometry(register) && self.units.is_silent();
         self.units
             .write_register(proc, now, register, number, value);
+        if silent && self.units.is_silent() {
+            return;
+        }
+        self.settled = false;
         self.first = self.units.find_acting();
     }
 }

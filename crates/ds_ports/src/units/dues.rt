@@ -5,7 +5,7 @@ ghost use Rattle.ds_base.specs.declared.processors.Proc.TheVariants.{Nine};
 ghost use Rattle.ds_runs.specs.Actors.{IsNumbered};
 ghost use Rattle.ds_runs.specs.declared.actors.Actor.TheVariants.{Geometry};
 ghost use Rattle.ds_runs.specs.Order.{first_from};
-ghost use Rattle.ds_ports.specs.Acting.{acting_io_due, first_acting_io_due, is_quiet};
+ghost use Rattle.ds_ports.specs.Acting.{acting_io_due, first_acting_io_due, is_quiet, is_silent};
 ghost use Rattle.ds_ports.specs.Dues.{dma_due_in, io_due, io_dues, released_at};
 ghost use Rattle.ds_ports.specs.Inside.{first_with};
 
@@ -84,15 +84,19 @@ impl Units {
         self.gx.port_kept(GXSTAT) == 0
     }
 
-    /// Whether geometry is due and quiet: nobody hears of what it does, since GXSTAT's selector is 0, no channel of ARM9's is enabled with the start
+    /// Whether nobody hears of what geometry does, whether or not it is due: GXSTAT's selector is 0, no channel of ARM9's is enabled with the start
     /// of the geometry FIFO, whether or not it runs, and no stall holds ARM9.
+    pub(crate) fn is_silent(&self) -> bool
+        ensures { result ≡ is_silent self.now }
+    {
+        self.is_unselected() && !self.nine.any_armed() && !self.gx.stalled()
+    }
+
+    /// Whether geometry is due and quiet: nobody hears of what it does.
     pub fn is_quiet(&self) -> bool
         ensures { result ≡ is_quiet self.now }
     {
-        self.gx.due().is_some()
-            && self.is_unselected()
-            && !self.nine.any_armed()
-            && !self.gx.stalled()
+        self.gx.due().is_some() && self.is_silent()
     }
 
     /// When geometry is due, if it is and isn't quiet.

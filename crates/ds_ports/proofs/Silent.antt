@@ -19,8 +19,8 @@ use Rattle.ds_ports.specs.Registers.{after_write}
 use Rattle.ds_ports.specs.declared.registers.Register.{Register}
 use Rattle.ds_ports.specs.declared.registers.Register.TheVariants.{GxWord, GxCommand}
 
--- Where nobody hears of what geometry does, before and after, its event and the words that it is given change neither which actor acts first nor whether
--- something is left to settle.
+-- Where nobody hears of what geometry does, before and after, its event and the words that it is given change neither which actor acts first nor
+-- whether something is left to settle.
 
 -- ---- what is so where geometry is silent
 
@@ -52,7 +52,8 @@ silent_first : (u : IoState) → is_silent u ≡ true → first_acting_io_due u 
 unfolding first_with first_acting_io_due
 silent_first u h = ap (λ (due : Option Tick). first_with due u) (silent_never u h)
 
-moves_none : (u : IoState) (g : GxState) → is_silent u ≡ true → is_silent (with_gx g u) ≡ true → first_acting_io_due (with_gx g u) ≡ first_acting_io_due u
+moves_none : (u : IoState) (g : GxState) → is_silent u ≡ true → is_silent (with_gx g u) ≡ true
+    → first_acting_io_due (with_gx g u) ≡ first_acting_io_due u
 moves_none u g before after =
     silent_first (with_gx g u) after
     ∙ first_same u g None ((silent_parts (with_gx g u) after).free ∙ sym (silent_parts u before).free)
@@ -83,8 +84,10 @@ any_of _ _ _ _ w x y z f g h k e = absurd (true≢false e)
 none_awaits : (dma : DmaState) → any_armed dma ≡ false → awaits_geometry dma ≡ false
 none_awaits dma =
     let at : ℕ → ChannelState = λ which. channel_at dma.channels which in
-    let by : (which : ℕ) → is_armed (at which).cnt ≡ false → is_triggered dma.proc causes.Geometry (at which) ≡ false = λ which h. untriggered dma.proc (at which) h in
-    any_of (is_armed (at 0).cnt) (is_armed (at 1).cnt) (is_armed (at 2).cnt) (is_armed (at 3).cnt) _ _ _ _ (by 0) (by 1) (by 2) (by 3)
+    let armed : ℕ → Bool = λ which. is_armed (at which).cnt in
+    let waits : ℕ → Bool = λ which. is_triggered dma.proc causes.Geometry (at which) in
+    let by : (which : ℕ) → armed which ≡ false → waits which ≡ false = λ which h. untriggered dma.proc (at which) h in
+    any_of (armed 0) (armed 1) (armed 2) (armed 3) _ _ _ _ (by 0) (by 1) (by 2) (by 3)
 
 settled_by : (half awaits : Bool) (a b : Bool) → awaits ≡ false → (a && (not (half && awaits) && b)) ≡ (a && b)
 settled_by half awaits a b e = rw e (rw (and_false half) refl)

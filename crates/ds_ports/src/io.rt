@@ -152,7 +152,8 @@ impl Io {
     /// The event of an actor behind the ports that is due: a timer overflows and its interrupts are raised, a division or a square root is done, or
     /// the head command of geometry, which may end a stall: then ARM9's channels are due at the next tick or later; or the card gives the next word
     /// of the cartridge's file, which triggers its starter's channels, or ends a transfer without words, which raises an interrupt there. The
-    /// display's is told by `show`, a DMA channel's by `move_channel`. Where nobody hears of what geometry does, before and after, what is kept stays.
+    /// display's is told by `show`, a DMA channel's by `move_channel`. Where nobody hears of what geometry does, before and after, what is kept
+    /// stays.
     #[tactic(auto, using(crate::proofs::Silent::event_moves_none, crate::proofs::Silent::event_settles_none))]
     pub fn event(&mut self, actor: Actor, file: &[u8])
         requires numbered { IsNumbered actor }
@@ -235,7 +236,8 @@ impl Io {
 
     /// What follows each step at a tick: bit 21 of ARM9's IF tells geometry's level as it is, ARM9's channels that wait for geometry are triggered
     /// where its count is below 128, and the tick after a stall's end is kept only while it holds back the channel that is due. It costs nothing
-    /// where nothing happened since the last such call but halts, writes of video memory, reads of ports, and writes of ports that move no due tick.
+    /// where nothing happened since the last such call but halts, writes of video memory, reads of ports, writes of ports that move no due tick, and
+    /// what geometry does that nobody hears of.
     #[inline(always)]
     #[tactic(auto, using(crate::proofs::Settles::settled_stays))]
     pub fn settle(&mut self, now: Tick)

@@ -77,9 +77,11 @@ pub mod WaitedSteps
 pub mod CardAccesses
 pub mod CardSteps
 pub mod CardValues
+pub mod SavedBounds
 pub mod SavedBytes
 pub mod SavedExact
 pub mod SavedMachine
+pub mod SavedReads
 pub mod SavedRunning
 pub mod SavedScripts
 pub mod MadeAccesses

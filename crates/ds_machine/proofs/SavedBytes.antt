@@ -1,11 +1,10 @@
 use Rattle.std.proofs.Common.{ℕ, ◌≡◌, Bool, false, List, Ok, Err, refl, subst}
-use Rattle.ds_base.specs.declared.keys.KeyLine.{KeyLine}
 use Rattle.ds_base.specs.declared.processors.Proc.{Proc}
 use Rattle.ds_card.specs.Saved.{card_format}
 use Rattle.ds_dma.specs.Saved.{channel_format_by, dma_format_by}
 use Rattle.ds_dma.specs.States.{DmaState}
 use Rattle.ds_state.proofs.Exact.{one_spelling}
-use Rattle.ds_state.specs.Formats.{Code, Format, done, then_field, then_part, list, bytes_written}
+use Rattle.ds_state.specs.Formats.{Format, done, then_field, then_part, list, bytes_written}
 use Rattle.ds_state.specs.Reading.{◌>>=◌, Left, ReadAnswer, read_code, read_format, read_list, ruled}
 use Rattle.ds_timers.proofs.SavedLaws.{irqs_saved}
 use Rattle.ds_timers.specs.Irqs.{IrqState, irq_levelled}

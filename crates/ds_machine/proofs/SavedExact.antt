@@ -1,4 +1,4 @@
-use Rattle.std.proofs.Common.{rules, ℕ, ◌≡◌, ◌==◌, not, Bool, true, false, List, [], ◌∷◌, bit_and, refl, sym, ◌∙◌, ap, arith}
+use Rattle.std.proofs.Common.{rules, ℕ, ◌≡◌, Bool, true, false, refl, ◌∙◌, ap}
 use Rattle.std.specs.Int.{bit_not, w32}
 use Rattle.arm_core.specs.Saved.{registers_format}
 use Rattle.cp15_tcm.proofs.Kept.{control_again}

@@ -1,4 +1,4 @@
-use Rattle.std.proofs.Common.{ℕ, zero, suc, All, bit_and, bit_or, length, ◌^◌, ◌≡◌, ◌<◌, ◌≤◌, ◌+◌, ◌*◌, ◌==◌, Bool, true, false, true≢false, if◌then◌else◌, List, [], ◌∷◌, Option, Some, None, Ok, slice_index, refl, sym, ◌∙◌, ap, subst, arith}
+use Rattle.std.proofs.Common.{ℕ, zero, suc, All, bit_and, bit_or, ◌^◌, ◌≡◌, ◌<◌, ◌≤◌, ◌+◌, ◌*◌, Bool, true, false, true≢false, if◌then◌else◌, List, [], ◌∷◌, Option, Ok, refl, sym, ap, subst, arith}
 use Rattle.std.specs.Prelude.{◌&&◌, not}
 use Rattle.std.specs.Int.Bits.{and_le_r, or_add_and}
 use Rattle.arm9_exec.specs.Statuses.{HasNineStatuses}
@@ -11,7 +11,6 @@ use Rattle.ds_base.proofs.Choices.{both_true, equal, if_true, is_equal}
 use Rattle.ds_base.specs.declared.keys.KeyLine.{KeyLine}
 use Rattle.ds_base.specs.declared.processors.Arch.{Arch}
 use Rattle.ds_base.specs.declared.processors.Arch.TheVariants.{V4, V5}
-use Rattle.ds_base.specs.declared.processors.Proc.{Proc}
 use Rattle.ds_base.specs.declared.processors.Proc.TheVariants.{Nine, Seven}
 use Rattle.ds_card.specs.Saved.{card_format}
 use Rattle.ds_dma.specs.Saved.{dma_format_by}
@@ -26,12 +25,12 @@ use Rattle.ds_state.specs.Laws.{StandsFor}
 use Rattle.ds_state.specs.Reading.{Left, read_format}
 use Rattle.ds_timers.specs.Irqs.{IrqState, events, irq_levelled, shares_bit}
 use Rattle.ds_timers.specs.Saved.{irq_format_by, timers_format}
-use Rattle.gx_fifo.specs.GxStates.{GxState, gx_level, is_half_empty, is_stalled}
+use Rattle.gx_fifo.specs.GxStates.{gx_level, is_half_empty, is_stalled}
 use Rattle.gx_fifo.specs.Saved.{gx_format_by}
 use Rattle.gx_fifo.specs.declared.gx.saved.Asked.{Asked}
 use Rattle.video2d.proofs.SavedScans.{scans_follow}
 use Rattle.video2d.specs.Saved.{video_format}
-use Rattle.video2d.specs.Scans.{ScanState, scan_before, scan_due}
+use Rattle.video2d.specs.Scans.{ScanState, scan_due}
 use Rattle.ds_machine.proofs.Running.{starts_running}
 use Rattle.ds_machine.proofs.SavedExact.{machine_exact, saved_events}
 use Rattle.ds_machine.proofs.SavedRunning.{IsDueFrom, answered, card_from, divider_from, gx_from, gx_run, late_runs, levelled_twice, nine_asleep, nine_channel, over_from, own_from, own_from_nine, root_from, scan_again, script_due, seven_asleep, seven_channel, timers_from}

@@ -1,28 +1,26 @@
-use Rattle.std.proofs.Common.{rules, ℕ, zero, suc, ◌≡◌, ◌<◌, ◌≤◌, ◌+◌, ◌-◌, ◌*◌, ◌^◌, ◌==◌, nat_le, nat_lt, Bool, true, false, true≢false, if◌then◌else◌, All, IfSome, List, [], ◌∷◌, length, slice_index, slice_index_or, Option, Some, None, bit_and, bit_or, max, refl, sym, ◌∙◌, ap, subst, arith}
+use Rattle.std.proofs.Common.{ℕ, zero, suc, ◌≡◌, ◌≤◌, ◌==◌, nat_lt, Bool, true, false, true≢false, if◌then◌else◌, IfSome, List, [], ◌∷◌, Option, Some, None, bit_and, bit_or, max, refl, sym, ◌∙◌, ap, subst, arith}
 use Rattle.std.specs.Prelude.{◌&&◌, ◌||◌, not}
 use Rattle.std.specs.Int.{bit_at, bit_not, w32}
 use Rattle.std.specs.List.{AllByRecursion}
 use Rattle.std.proofs.Math.Nat.{le-max_left, le-max_right}
 use Rattle.std.proofs.lemmas.Nat.Bits.{bit_at-zero, bit_at_and, bit_at_or, same_from_bits}
-use Rattle.ds_base.proofs.Choices.{both, both_true, equal, is_equal, le_of, not_false, not_lt, not_true}
+use Rattle.ds_base.proofs.Choices.{both, both_true, equal, le_of, not_false, not_lt, not_true}
 use Rattle.ds_base.specs.Schedules.{due_number}
 use Rattle.ds_base.specs.declared.keys.KeyLine.{KeyLine}
-use Rattle.ds_base.specs.declared.processors.Proc.{Proc}
-use Rattle.ds_base.specs.declared.processors.Proc.TheVariants.{Nine, Seven}
+use Rattle.ds_base.specs.declared.processors.Proc.TheVariants.{Seven}
 use Rattle.ds_base.specs.declared.ticks.Tick.{Tick}
 use Rattle.ds_card.specs.Cards.{CardState, card_due}
 use Rattle.ds_card.specs.Saved.{card_format}
 use Rattle.ds_dma.proofs.SavedLaws.{none_earlier}
 use Rattle.ds_dma.specs.Channels.{ChannelState, is_running, ready}
 use Rattle.ds_dma.specs.Saved.{channel_format_by, comes_by, dma_format_by, last_must, must_run}
-use Rattle.ds_dma.specs.States.{DmaState, any_runs, awaits_geometry, channel_at, channel_due, dma_due, due_with, least_running}
-use Rattle.ds_dma.specs.declared.dma.DmaDue.{DmaDue}
+use Rattle.ds_dma.specs.States.{DmaState, any_runs, channel_at, channel_due, dma_due, due_with, least_running}
 use Rattle.ds_math.specs.Dividers.{DividerState}
 use Rattle.ds_math.specs.Roots.{RootState}
 use Rattle.ds_math.specs.Saved.{divider_format, root_format}
-use Rattle.ds_ports.specs.Dues.{held_due, released_at}
+use Rattle.ds_ports.specs.Dues.{held_due}
 use Rattle.ds_ports.specs.Io.{channel_comes_before}
-use Rattle.ds_runs.specs.Runs.{IsOver, due_at}
+use Rattle.ds_runs.specs.Runs.{IsOver}
 use Rattle.ds_state.proofs.Kept.{kept_twice}
 use Rattle.ds_state.specs.Formats.{soon}
 use Rattle.ds_state.specs.Laws.{StandsFor}

@@ -1,4 +1,4 @@
-use Rattle.std.proofs.Common.{ℕ, ◌≡◌, ◌<◌, ◌+◌, nat_lt, Bool, true, false, true≢false, if◌then◌else◌, List, [], ◌∷◌, length, refl, sym, ◌∙◌, ap, subst, arith}
+use Rattle.std.proofs.Common.{ℕ, ◌≡◌, ◌<◌, nat_lt, true, false, true≢false, List, [], ◌∷◌, length, refl, sym, ◌∙◌, ap, arith}
 use Rattle.ds_base.proofs.Choices.{if_false, if_true}
 use Rattle.ds_base.specs.declared.keys.KeyLine.{KeyLine}
 use Rattle.ds_machine.specs.Saved.{script_from, starts_before}

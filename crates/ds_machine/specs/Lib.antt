@@ -35,3 +35,4 @@ pub mod Within
 pub mod Back
 pub mod CardSteps
 pub mod Saved
+pub mod Taken

@@ -41,10 +41,14 @@
 //!   which nobody acts (`CatchesUp`), and `catch_up_before` does so before a step that observes geometry (`CatchesUpFor`).
 //!
 //! Proved of bytes, by one format (`machine_format`), which is the order of the fields with each field's rule; the formats of the units are their
-//! own, and a rule over several units is told at the last of its fields. No machine is put in bytes or taken from them yet.
-//! - `time_laws`: at boot, and wherever a run to a tick ends, all that the machine keeps of ticks is within that tick, and the lines of the script
-//!   that are to come are those from that tick on. `back_laws`: bytes of a machine of which that is so are read as that machine, where it is sound,
-//!   nobody is due below the tick, and its numbers have their bounds (`HasMachineBounds`).
+//! own:
+//! - `pack` puts exactly the machine's bytes by it. `unpack`, at a tick, with a cartridge, a whole key script and the counts of steps, gives exactly
+//!   the machine that is read, or where the first field begins that isn't whole or breaks its rule (`read_format`); a rule over several units is told
+//!   at the last of its fields. What isn't saved is made anew: the geometry FIFO's bit of ARM9's IF, what a stall's end left (`released_again`), and
+//!   the lines of the script that are to come (`script_from`). The machine goes on (clause `running`): its units are settled, no halted processor is
+//!   to wake, and nobody is due before the tick.
+//! - `saved_laws`: bytes that are read are those of what is read (`spelling`); they are those of the state alone (`same`); and what is read has the
+//!   counts and the file that were handed in (`counts`).
 //!
 //! Proved of runs, each by a law call:
 //! - `reference_laws`: runs join, are unique, exist, and take at most 24 steps a tick.
@@ -93,6 +97,7 @@ mod machines;
 mod next_events;
 mod parts;
 mod processors;
+mod saved;
 mod scripts;
 mod sides;
 mod steady_ports;
@@ -110,4 +115,5 @@ pub use laws::{
 };
 pub use machines::Machine;
 pub use next_events::First;
+pub use saved::saved_laws;
 pub use stopping::stop_laws;

@@ -25,6 +25,8 @@ ghost use Rattle.ds_machine.specs.States.{with_file};
 ghost use Rattle.ds_machine.specs.Statuses.{HasBothStatuses};
 ghost use Rattle.ds_machine.specs.Steps.{processor_of, tick_of};
 
+mod saved;
+
 use crate::answers::{Done, Private, Seen};
 use crate::going::Gone;
 use crate::next_events::{First, NextEvent};

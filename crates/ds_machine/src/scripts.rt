@@ -3,6 +3,7 @@
 ghost use Rattle.std.specs.Prelude.{◌≡◌, ◌<◌, ◌^◌, ◌∷◌, length};
 ghost use Rattle.ds_base.specs.KeyLines.{AreKeyLines};
 ghost use Rattle.ds_machine.specs.Reference.{keys_due};
+ghost use Rattle.ds_machine.specs.Saved.{script_from, starts_before};
 
 use ds_base::{KeyLine, Keys, Tick};
 use std::marker::Model;
@@ -31,6 +32,28 @@ impl Script {
         ensures { result ≡ keys }
     {
         Script { keys, past: 0 }
+    }
+
+    /// A script, of which the lines before a tick are past.
+    #[tactic(auto, using(crate::proofs::SavedScripts::line_past, crate::proofs::SavedScripts::some_left, crate::proofs::SavedScripts::none_before))]
+    pub fn from_tick(keys: Keys, at: Tick) -> Script
+        ensures { result ≡ script_from at.0 keys }
+    {
+        let mut script = Script::new(keys);
+        'lines: while script.starts_before(at) {
+            script.take();
+        }
+        script
+    }
+
+    /// Whether its next line is due before a tick.
+    fn starts_before(&self, at: Tick) -> bool
+        ensures { result ≡ starts_before at.0 self.now }
+    {
+        match self.due() {
+            Some(due) => due.0 < at.0,
+            None => false,
+        }
     }
 
     /// When its next line is due, if there is one.

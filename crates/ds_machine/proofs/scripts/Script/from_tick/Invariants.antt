@@ -1,0 +1,9 @@
+use Rattle.std.proofs.Common.{◌≡◌, length}
+use Rattle.ds_machine.specs.Saved.{script_from}
+use Rattle.ds_machine.proofs.scripts.Script.from_tick.Given as goal
+
+abbrev pub invariant-lines : goal.invariant-lines
+invariant-lines l = script_from l.at.0 l.script ≡ script_from l.at.0 l.fn.keys
+
+abbrev pub decreases-lines : goal.decreases-lines
+decreases-lines l = length l.script

@@ -5,4 +5,5 @@ mod display;
 mod geometry;
 mod observed;
 mod room;
+mod saved;
 mod told;

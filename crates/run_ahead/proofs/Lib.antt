@@ -1,5 +1,6 @@
 pub mod LoadedMachine
 pub mod RunningOn
+pub mod SavedStates
 pub mod StepTurns
 pub mod Stretches
 pub mod TickTurns
@@ -8,3 +9,5 @@ pub mod TurnLaws
 pub mod TurnRuns
 pub mod TurnTests
 pub mod TurnsAreOne
+mod FewBytes
+mod StateSizes

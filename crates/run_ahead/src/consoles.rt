@@ -10,19 +10,23 @@ ghost use Rattle.ds_ipc.specs.Ipcs.{AreSides};
 ghost use Rattle.ds_machine.specs.Sound.{HasSoundParts, IsSound};
 ghost use Rattle.ds_machine.specs.StepAnswers.{IsDue};
 ghost use Rattle.ds_machine.specs.Statuses.{HasBothStatuses};
+ghost use Rattle.ds_machine.specs.Within.{IsWithinTick};
 ghost use Rattle.run_ahead.specs.Consoles.{AreWithin};
 ghost use Rattle.run_ahead.specs.Inside.{IsAtOnce};
 ghost use Rattle.run_ahead.specs.Turns.{Turns, TurnsUpTo, RunsOn, HasRuns, turns_remaining, counted_of, shown_in};
 ghost use Rattle.ds_base.specs.declared.left_out.LeftOut.{LeftOut};
 ghost use Rattle.run_ahead.specs.declared.turns.Turned.TheVariants.{Ran, Stopped};
 
+mod saved;
+
 use crate::loaded::Loaded;
 use crate::machine_turns::{take_stretch_of, take_turn};
 use crate::turns::Turned;
 use ds_base::{Due, Keys, LeftOut, Memory, Proc, Tick};
 use ds_header::Cart;
-use ds_machine::{Done, First, Seen};
+use ds_machine::{Done, First, Seen, time_laws};
 use gx_geometry::Lists;
+pub use saved::state_laws;
 use std::alloc::{AllocError, Global};
 use std::marker::Model;
 
@@ -67,10 +71,14 @@ impl Model for Console {
 }
 
 impl Console {
-    /// A console that is switched on with a cartridge and a key script, and hasn't run. All memory of a run is taken here.
+    /// A console that is switched on with a cartridge and a key script, and hasn't run. All memory of a run is taken here. What its machine keeps of
+    /// times is as after a run to tick 0.
     pub fn new(alloc: Global, cart: Cart, keys: Keys) -> Result<Console, AllocError>
-        ensures { IfOk result (λ console. console ≡ record { machine = machine_booted cart keys; limit = 0; stopped = None; turns = 0 }) }
+        ensures booted { IfOk result (λ console. console ≡ record { machine = machine_booted cart keys; limit = 0; stopped = None; turns = 0 }) }
+        ensures within { IfOk result (λ console. IsWithinTick 0 console.machine) }
+        ensures parts { IfOk result (λ console. HasSoundParts console.machine) }
     {
+        time_laws();
         let machine = Loaded::new(alloc, cart, keys)?;
         Ok(Console {
             machine,

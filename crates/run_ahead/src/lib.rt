@@ -26,6 +26,13 @@
 //!   (`has_runs`).
 //! - `counts` tells the steps, at most 24 times the limit (`bound`), and the turns, no more than steps (`fewer`). `framed` is the tick of
 //!   the last whole frame: None exactly where no frame is whole yet.
+//! - `Console::save` gives exactly the console's bytes (`state_bytes`): a head, with the SHA-256 that it is given, the tick and the counts,
+//!   and the machine behind it. They are read back as the console (`accepted`), by each later limit and with each key script of which its
+//!   lines are those from its tick on, where all that the machine keeps of times is as it is after a run to that tick: so it is of one that
+//!   was just switched on (`Console::new`, clause `within`), and wherever a run of it ends (`time_laws`). `Console::resume`
+//!   gives exactly what is read of bytes (`read_state`): the console that they stand for; or the place of the first field that isn't
+//!   whole or breaks its rule, or of the first byte that is left over. `state_laws`: bytes that are read as a console are its bytes,
+//!   and are no more than a file of one may have.
 //! - `Console::laws` tells what `Machine::laws` does, at most 324 entries that wait (`entries`), at most 6,144 vertices and 2,048 polygons
 //!   in the open lists (`open`) and the last (`last`), and unless the console has stopped that no halted processor is to wake and the units
 //!   are settled (`sound`).
@@ -34,12 +41,14 @@
 #![tactic(auto)]
 
 mod consoles;
+mod heads;
 mod laws;
 mod loaded;
 mod machine_turns;
 mod turns;
 
-pub use consoles::{Console, Counts};
+pub use consoles::{Console, Counts, state_laws};
 pub use ds_machine::{Seen, reference_laws};
+pub use heads::Head;
 pub use laws::{tick_turn_laws, turn_laws};
 pub use turns::Turned;

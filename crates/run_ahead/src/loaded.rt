@@ -1,8 +1,14 @@
 //! A machine with its cartridge.
 
-ghost use Rattle.std.specs.Prelude.{◌≡◌, ◌↔◌, ◌<◌, ◌≤◌, ◌^◌, false, true, IfOk, IfSome};
+ghost use Rattle.std.specs.Prelude.{◌≡◌, ◌↔◌, ◌<◌, ◌≤◌, ◌+◌, ◌*◌, ◌^◌, ℕ, false, true, slice_index, IfOk, IfSome, OnOk};
+ghost use Rattle.ds_state.specs.Formats.{bytes_written};
+ghost use Rattle.ds_state.specs.Reading.{GivesIn, read_format};
+ghost use Rattle.run_ahead.specs.Saved.{format_behind};
+ghost use Rattle.run_ahead.specs.declared.heads.Head.{Head};
 ghost use Rattle.ds_ipc.specs.Ipcs.{AreSides};
+ghost use Rattle.ds_ports.specs.Io.{io_at_boot};
 ghost use Rattle.ds_machine.specs.Acting.{is_behind, IsActing};
+ghost use Rattle.ds_machine.specs.Back.{HasMachineBounds};
 ghost use Rattle.ds_machine.specs.Booted.{machine_booted};
 ghost use Rattle.ds_machine.specs.Counting.{last_limit, IsRunning, RunsAfter};
 ghost use Rattle.ds_machine.specs.Lagging.{CatchesUp, CatchesUpFor, ComesBeforeAll};
@@ -14,9 +20,11 @@ ghost use Rattle.ds_machine.specs.Steps.{processor_of, tick_of};
 ghost use Rattle.ds_machine.specs.TurnSteps.{BelongsToTurn, HasLimit, IsFirst, MayAct, MayStep, TakesSteps};
 ghost use Rattle.gx_fifo.specs.GxStates.{IsGx};
 
+use crate::heads::Head;
 use ds_base::{Due, Keys, Proc, Tick};
 use ds_header::Cart;
 use ds_machine::{Done, First, Machine};
+use ds_state::{Packer, Unpacked, Unpacker};
 use std::alloc::{AllocError, Global};
 use std::marker::Model;
 use std::ops::Deref;
@@ -52,6 +60,8 @@ impl Loaded {
     /// The machine as it is when it is switched on with a cartridge and a key script. All memory of a run is taken here.
     pub fn new(alloc: Global, cart: Cart, keys: Keys) -> Result<Loaded, AllocError>
         ensures booted { IfOk result (λ machine. machine ≡ machine_booted cart keys) }
+        ensures file { IfOk result (λ machine. machine.file ≡ cart) }
+        ensures units { IfOk result (λ machine. machine.io ≡ io_at_boot) }
         ensures running { IfOk result (IsRunning 0) }
     {
         let machine = Machine::new(alloc, &cart, keys)?;
@@ -170,6 +180,47 @@ impl Loaded {
         ensures running { IsRunning last_limit self.new }
     {
         self.machine.catch_up_before(tick, rank);
+    }
+
+    /// The whole file of the cartridge.
+    pub fn file(&self) -> &[u8]
+        ensures { result.now ≡ self.now.file }
+    {
+        self.cart.bytes()
+    }
+
+    /// Puts the machine in bytes. The error is want of memory.
+    pub fn pack(&self, into: &mut Packer) -> Result<(), AllocError>
+        ensures { (head : Head) → OnOk result (into.new ≡ bytes_written (format_behind head self.now.file self.now.keys) into.old self.now) }
+    {
+        self.machine.pack(into)
+    }
+
+    /// Takes the machine that stands behind a head, of a cartridge and a key script. All memory of a run is taken here. The error is want of memory,
+    /// or where the first field begins that isn't whole or breaks its rule.
+    pub fn unpack(
+        alloc: Global,
+        cart: Cart,
+        keys: Keys,
+        head: Head,
+        from: &mut Unpacker,
+    ) -> Result<Loaded, Unpacked>
+        requires early { head.at ≤ 2 ^ 56 }
+        requires few { head.nine + head.seven + head.events ≤ 24 * head.at }
+        requires bytes { (i : ℕ) → slice_index from.old.bytes i < 256 }
+        ensures reads { GivesIn (λ m. m) result from.new (read_format (format_behind head cart keys) head.at from.old) }
+        ensures running { IfOk result (λ m. IsRunning head.at m) }
+    {
+        let steps = [head.nine, head.seven, head.events];
+        let machine = Machine::unpack(alloc, &cart, keys, steps, from, Tick(head.at))?;
+        Ok(Loaded { machine, cart })
+    }
+
+    /// Does nothing; its contract tells what is known of each number of the machine.
+    pub fn bounds(&self)
+        ensures { HasMachineBounds self.now }
+    {
+        self.machine.bounds();
     }
 
     /// Does nothing; its contract states what holds of every machine.

@@ -1,4 +1,4 @@
-use Rattle.std.proofs.Common.{◌≡◌, sym, subst}
+use Rattle.std.proofs.Common.{sym, subst}
 use Rattle.ds_base.specs.declared.processors.Proc.{Proc}
 use Rattle.ds_machine.specs.TurnSteps.{HasLimit}
 use Rattle.run_ahead.specs.Inside.{TookStretch}

@@ -1,5 +1,5 @@
-use Rattle.std.proofs.Common.{refl, sym, ◌∙◌, ap, subst, arith}
-use Rattle.ds_machine.specs.States.{MachineState, counts_of}
+use Rattle.std.proofs.Common.{◌≡◌, List, ℕ, refl, sym, subst, arith}
+use Rattle.ds_machine.specs.Booted.{machine_booted}
 use Rattle.ds_machine.proofs.Running.{counts_add_up}
 use Rattle.run_ahead.proofs.consoles.Console.new.Goals as goal
 
@@ -11,3 +11,12 @@ invariant_of-result c = (
   λ none. c.in_ok-machine.ensures.running,
   omega arith,
 )
+
+pub returns-clause-within : goal.returns-clause-within
+returns-clause-within c =
+    let machine = c.in_ok-machine.machine in
+    let is = subst (λ (file : List ℕ). machine ≡ machine_booted file c.args.keys) (sym c.in_ok-machine.ensures.file) c.in_ok-machine.ensures.booted in
+    c.time_laws.ensures.boot machine c.args.keys is c.in_ok-machine.ensures.units
+
+pub returns-clause-parts : goal.returns-clause-parts
+returns-clause-parts c = c.in_ok-machine.ensures.running.sound.parts

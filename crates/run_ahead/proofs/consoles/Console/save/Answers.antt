@@ -1,0 +1,28 @@
+use Rattle.std.proofs.Common.{ℕ, ◌≡◌, ◌≤◌, ◌*◌, ◌^◌, List, None, sym, ◌∙◌, ap, subst}
+use Rattle.ds_machine.specs.Back.{HasMachineBounds}
+use Rattle.ds_machine.specs.Reference.{dues_of}
+use Rattle.ds_machine.specs.Sound.{IsSound}
+use Rattle.ds_machine.specs.States.{counts_of}
+use Rattle.ds_machine.specs.Within.{IsWithinTick}
+use Rattle.ds_runs.specs.Runs.{IsOver}
+use Rattle.run_ahead.specs.Consoles.{ConsoleState}
+use Rattle.run_ahead.specs.Saved.{IsReadBack, head_of, state_bytes}
+use Rattle.run_ahead.proofs.SavedStates.{kept_back, written_whole}
+use Rattle.run_ahead.proofs.consoles.Console.save.Goals as goal
+
+pub returns-clause-accepted : goal.returns-clause-accepted
+returns-clause-accepted c = λ within.
+    (let now = c.args.self.now in
+    let digest = c.args.digest.now in
+    let machine = ap (λ (x : ConsoleState). x.machine) c.self.view_is in
+    let is : c.finish.result.items ≡ state_bytes digest now =
+    c.finish.ensures
+    ∙ written_whole digest now c.self.inside.machine c.head.result c.new-into.result c.pack.new.into c.pack-2.new.into machine c.head.ensures c.new-into.ensures c.in_ok-pack.ensures
+    (c.in_ok-pack-2.ensures (head_of now)) in
+    let kept = subst (λ (x : ConsoleState). (x.limit ≤ 2 ^ 56) × (counts_of x.machine ≤ 24 * x.limit) × (x.turns ≤ counts_of x.machine) × (x.stopped ≡ None → IsSound x.machine)) c.self.view_is
+    (c.self.invariant.1, c.self.invariant.0, c.self.invariant.4, λ none. (c.self.invariant.3 none).sound) in
+    let over = subst (λ (at : ℕ). IsOver (dues_of now.machine) at) c.requires.limit c.requires.over in
+    let by = subst (λ (at : ℕ). IsWithinTick at now.machine) c.requires.limit within in
+    let bounds = subst (λ (x : ConsoleState). HasMachineBounds x.machine) c.self.view_is c.bounds.ensures in
+    subst (λ (bytes : List ℕ). IsReadBack digest now bytes) (sym is)
+    (kept_back c.saved_laws.ensures c.back_laws.ensures digest now c.told-digest c.requires.open kept.0 kept.1 kept.2 bounds (kept.3 c.requires.open) over by))

@@ -3,9 +3,9 @@ use Rattle.std.proofs.lemmas.Option.{same_Some, none-some}
 use Rattle.ds_io.specs.Faults.{Rose}
 use Rattle.ds_io.specs.Shelves.{Named, Told, file_of, files_of, found_in, left_of, Finds, TookAll, TookTooMany}
 use Rattle.ds_io.proofs.Putting.{rose_within}
-use Rattle.nds_answers.specs.Loads.{IsFile, IsLong, RefusesScript}
+use Rattle.nds_answers.specs.Loads.{IsCart, IsFile, IsLong, RefusesCart, RefusesRun, RefusesScript, cartridge, script}
 use Rattle.nds_answers.specs.declared.statuses.Status.{Status}
-use Rattle.nds_answers.specs.declared.statuses.Status.TheVariants.{Done, Usage, NoFile, ReadFault, WriteFault, TooLong, BadHeader, BadScript, LeftOut, BadText, NoMemory}
+use Rattle.nds_answers.specs.declared.statuses.Status.TheVariants.{Done, Usage, NoFile, ReadFault, WriteFault, TooLong, BadHeader, BadScript, LeftOut, BadText, BadState, NoMemory}
 
 some_is : (o : Option (List ℕ)) → true ≡ is_some o → o ≡ Some (unwrap_or o [])
 some_is None e = cc
@@ -60,4 +60,33 @@ script_refused old mid a b c name status same le refused =
     rises files r s name (BadScript line column) f h = h
     rises files r s name (LeftOut left) f h = h
     rises files r s name (BadText line) f h = h
+    rises files r s name (BadState offset) f h = h
     rises files r s name NoMemory f h = h
+
+-- and that of a cartridge
+cart_refused : (old mid : Option (List Named)) (a b c : ℕ) (name : List ℕ) (status : Status) → mid ≡ old → a ≤ b → RefusesCart mid (Rose b c) name status → RefusesCart old (Rose a c) name status
+cart_refused old mid a b c name status same le refused =
+    let P : Option (List Named) → Type 0 = λ x. RefusesCart x (Rose b c) name status in
+    rises old (Rose b c) (Rose a c) name status (rose_within a b c le) (subst P same refused)
+  where
+    rises : (files : Option (List Named)) (r s : Type 0) (name : List ℕ) (status : Status) → (r → s) → RefusesCart files r name status → RefusesCart files s name status
+    rises files r s name Done f h = h
+    rises files r s name Usage f h = h
+    rises files r s name NoFile f h = h
+    rises files r s name ReadFault f h = f h
+    rises files r s name WriteFault f h = h
+    rises files r s name TooLong f h = h
+    rises files r s name (BadHeader fault) f h = h
+    rises files r s name (BadScript line column) f h = h
+    rises files r s name (LeftOut left) f h = h
+    rises files r s name (BadText line) f h = h
+    rises files r s name (BadState offset) f h = h
+    rises files r s name NoMemory f h = h
+
+-- and that of a run's files
+pub run_refused : (old mid : Option (List Named)) (a b c : ℕ) (cart : List ℕ) (keys : Option (List ℕ)) (status : Status) (named : List ℕ) → mid ≡ old → a ≤ b
+    → RefusesRun mid (Rose b c) cart keys status named → RefusesRun old (Rose a c) cart keys status named
+run_refused old mid a b c cart keys status named same le (cartridge refused is) = cartridge (cart_refused old mid a b c cart status same le refused) is
+run_refused old mid a b c cart keys status named same le (script file accepted is refused) =
+    let P : Option (List Named) → Type 0 = λ x. IsCart x cart file in
+    script file (subst P same accepted) is (script_refused old mid a b c named status same le refused)

@@ -33,7 +33,7 @@ Refuses files rose name limit TooLong = IsLong files name limit
 Refuses files rose name limit NoMemory = Unit {0}
 Refuses files rose name limit other = ⊥
 
--- the greatest length of a cartridge, of a key script and of a listing's file, in bytes
+-- the greatest length of a cartridge, of a key script, of a listing's file and of a saved state's, in bytes
 abbrev pub most_bytes : ℕ
 most_bytes = 33554432
 
@@ -42,6 +42,9 @@ most_script = 4194304
 
 abbrev pub most_text : ℕ
 most_text = 134217728
+
+abbrev pub most_state : ℕ
+most_state = 8388608
 
 -- the words' cartridge is read and accepted, and its bytes are these
 pub record IsCart (files : Option (List Named)) (name file : List ℕ) : Type 0 where
@@ -69,3 +72,11 @@ pub data RefusesRun (files : Option (List Named)) (rose : Type 0) (cart : List �
   cartridge : RefusesCart files rose cart status → named ≡ cart → RefusesRun files rose cart keys status named
   script : (file : List ℕ) → IsCart files cart file → keys ≡ Some named → RefusesScript files rose named status
       → RefusesRun files rose cart keys status named
+
+-- when each refusal of the files of a run that goes on from a saved state comes, and of which file it speaks: of the state's; or, where that is
+-- found, read and short enough, of the cartridge or of the key script. Whether the state is one is asked after that
+pub data RefusesFiles (files : Option (List Named)) (rose : Type 0) (state cart : List ℕ) (keys : Option (List ℕ)) (status : Status)
+    (named : List ℕ) : Type 0 where
+  state_file : Refuses files rose state most_state status → named ≡ state → RefusesFiles files rose state cart keys status named
+  run_files : (bytes : List ℕ) → IsFileRead files state most_state bytes → RefusesRun files rose cart keys status named
+      → RefusesFiles files rose state cart keys status named

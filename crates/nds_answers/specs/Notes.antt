@@ -59,10 +59,14 @@ stop_line left = concat (codes "left out: " ∷ kind_word left.kind ∷ codes " 
 abbrev pub text_line : ℕ → List ℕ
 text_line line = concat (codes "bad text: line " ∷ decimal line ∷ line_feed ∷ [])
 
+-- `bad state: offset N`
+abbrev pub state_line : ℕ → List ℕ
+state_line offset = concat (codes "bad state: offset " ∷ decimal offset ∷ line_feed ∷ [])
+
 -- the line of a status, with the name of the file that it speaks of
 abbrev pub note_of : status.Status → List ℕ → List ℕ
 note_of statuses.Done name = []
-note_of statuses.Usage name = codes "usage: nds run|list|asm|trace|peek|demo" ++ line_feed
+note_of statuses.Usage name = codes "usage: nds run|list|asm|trace|peek|demo|save|resume" ++ line_feed
 note_of statuses.NoFile name = concat (codes "no file: " ∷ name ∷ line_feed ∷ [])
 note_of statuses.ReadFault name = concat (codes "read fault: " ∷ name ∷ line_feed ∷ [])
 note_of statuses.WriteFault name = codes "write fault" ++ line_feed
@@ -71,6 +75,7 @@ note_of (statuses.BadHeader fault) name = header_line fault
 note_of (statuses.BadScript line column) name = script_line line column
 note_of (statuses.LeftOut left) name = stop_line left
 note_of (statuses.BadText line) name = text_line line
+note_of (statuses.BadState offset) name = state_line offset
 note_of statuses.NoMemory name = codes "out of memory" ++ line_feed
 
 -- a sink was to take a line: it took it, or a front of it where its count of faults rose

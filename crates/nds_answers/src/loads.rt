@@ -1,4 +1,4 @@
-//! Finding and reading a file, a cartridge, a key script, and the files of a run.
+//! Finding and reading a file, a cartridge, a key script, the files of a run, and those of a run that goes on from a saved state.
 
 ghost use Rattle.std.specs.Prelude.{◌≡◌, ◌≤◌, ◌<◌, ◌^◌, length, IfOk, IfErr, Some, option_map};
 ghost use Rattle.ds_io.specs.Faults.{Rose};
@@ -6,7 +6,7 @@ ghost use Rattle.ds_io.specs.Shelves.{files_of};
 ghost use Rattle.ds_header.specs.Rules.{IsAccepted};
 ghost use Rattle.nds_words.specs.Scripts.{IsScript};
 ghost use Rattle.nds_answers.specs.Inside.{RefusesBytes, RefusesText};
-ghost use Rattle.nds_answers.specs.Loads.{IsCart, IsFileRead, AreKeys, Refuses, RefusesCart, RefusesRun, RefusesScript, most_script};
+ghost use Rattle.nds_answers.specs.Loads.{IsCart, IsFileRead, AreKeys, Refuses, RefusesCart, RefusesFiles, RefusesRun, RefusesScript, most_script, most_state};
 
 use crate::statuses::{Ended, Status};
 use ds_base::Keys;
@@ -20,6 +20,9 @@ const MOST_BYTES: usize = 33_554_432;
 
 /// The greatest length of a key script, in bytes.
 const MOST_SCRIPT: usize = 4_194_304;
+
+/// The greatest length of a saved state's file, in bytes.
+const MOST_STATE: usize = 8_388_608;
 
 /// The whole bytes of a file, or the status that refuses it.
 #[tactic(auto, using(crate::proofs::Loading::all_is_file, crate::proofs::Loading::long_is_file, crate::proofs::Loading::finding_keeps))]
@@ -118,5 +121,35 @@ pub fn load_run<'a, F: Shelf>(
     match load_script(alloc, shelf, name) {
         Ok(lines) => Ok((file, lines)),
         Err(status) => Err(Ended { status, file: name }),
+    }
+}
+
+/// The bytes of a saved state's file, and the cartridge and the keys of the run that goes on from it; or how the run ends without them. The cartridge
+/// is looked for once the state's file is read. Whether its bytes are a state isn't asked here.
+pub fn load_saved<'a, F: Shelf>(
+    alloc: Global,
+    shelf: &mut F,
+    state: &'a str,
+    cart: &'a str,
+    keys: Option<&'a str>,
+) -> Result<(Vec<u8>, Cart, Keys), Ended<'a>>
+    ensures state { IfOk result (λ all. IsFileRead (files_of (F.told shelf.old)) state.entry.now most_state all.0.items) }
+    ensures cart { IfOk result (λ all. IsCart (files_of (F.told shelf.old)) cart.entry.now all.1) }
+    ensures keys { IfOk result (λ all. AreKeys (files_of (F.told shelf.old)) (option_map (λ name. name.now) keys.entry) all.2) }
+    ensures err { IfErr result
+        (λ ended. RefusesFiles (files_of (F.told shelf.old)) (Rose (F.faults shelf.old) (F.faults shelf.new)) state.entry.now cart.entry.now
+        (option_map (λ name. name.now) keys.entry) ended.status ended.file.now) }
+    ensures files { files_of (F.told shelf.new) ≡ files_of (F.told shelf.old) }
+{
+    let bytes = match load(alloc, shelf, state, MOST_STATE) {
+        Ok(bytes) => bytes,
+        Err(status) => return Err(Ended {
+            status,
+            file: state,
+        }),
+    };
+    match load_run(alloc, shelf, cart, keys) {
+        Ok((file, lines)) => Ok((bytes, file, lines)),
+        Err(ended) => Err(ended),
     }
 }

@@ -2,7 +2,7 @@
 
 ghost use Rattle.std.specs.Prelude.{◌≡◌};
 ghost use Rattle.ds_io.specs.Puts.{Puts};
-ghost use Rattle.nds_answers.specs.Notes.{field_word, kind_word, header_line, script_line, stop_line, text_line, note_of, Noted};
+ghost use Rattle.nds_answers.specs.Notes.{field_word, kind_word, header_line, script_line, state_line, stop_line, text_line, note_of, Noted};
 
 use crate::statuses::Status;
 use ds_base::{LeftKind, LeftOut, hex_digits};
@@ -104,6 +104,15 @@ fn put_text_line<N: Sink>(notes: &mut N, line: u32) -> Result<(), Failed>
     put_parts(notes, &[b"bad text: line ", number, b"\n"])
 }
 
+/// The line of a state that isn't accepted.
+fn put_state_line<N: Sink>(notes: &mut N, offset: u32) -> Result<(), Failed>
+    ensures { Puts N.tells N.taken N.faults (state_line offset) result notes.old notes.new }
+{
+    let mut number = Buffer::new();
+    let number = number.format(offset).as_bytes();
+    put_parts(notes, &[b"bad state: offset ", number, b"\n"])
+}
+
 /// The line of a status, with the name of the file that it speaks of.
 #[tactic(auto, using(ds_io::proofs::SinkLemmas::append_none))]
 fn put_line<N: Sink>(notes: &mut N, status: &Status, name: &[u8]) -> Result<(), Failed>
@@ -111,7 +120,10 @@ fn put_line<N: Sink>(notes: &mut N, status: &Status, name: &[u8]) -> Result<(), 
 {
     match status {
         Status::Done => Ok(()),
-        Status::Usage => put_all(notes, b"usage: nds run|list|asm|trace|peek|demo\n"),
+        Status::Usage => put_all(
+            notes,
+            b"usage: nds run|list|asm|trace|peek|demo|save|resume\n",
+        ),
         Status::NoFile => put_parts(notes, &[b"no file: ", name, b"\n"]),
         Status::ReadFault => put_parts(notes, &[b"read fault: ", name, b"\n"]),
         Status::WriteFault => put_all(notes, b"write fault\n"),
@@ -120,6 +132,7 @@ fn put_line<N: Sink>(notes: &mut N, status: &Status, name: &[u8]) -> Result<(), 
         Status::BadScript { line, column } => put_script_line(notes, *line, *column),
         Status::LeftOut(left) => put_stop_line(notes, *left),
         Status::BadText { line } => put_text_line(notes, *line),
+        Status::BadState { offset } => put_state_line(notes, *offset),
         Status::NoMemory => put_all(notes, b"out of memory\n"),
     }
 }

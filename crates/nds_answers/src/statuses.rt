@@ -37,6 +37,11 @@ pub enum Status {
         /// The line's number, from 1.
         line: u32,
     },
+    /// The saved state's file stands for no state of the cartridge at a tick below that to which it is to go on.
+    BadState {
+        /// The place of the first field that isn't whole or breaks its rule, or of the first byte left over.
+        offset: u32,
+    },
     /// There was no memory; nothing was written.
     NoMemory,
 }
@@ -65,6 +70,7 @@ pub fn number(status: &Status) -> u8
         Status::BadScript { line: _, column: _ } => 8,
         Status::LeftOut(_) => 9,
         Status::BadText { line: _ } => 10,
+        Status::BadState { offset: _ } => 11,
         Status::NoMemory => 12,
     }
 }

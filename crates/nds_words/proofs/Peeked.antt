@@ -4,7 +4,7 @@ use Rattle.std.proofs.lemmas.Fmt.{decimal_injective}
 use Rattle.ds_base.specs.Memories.{memory_size}
 use Rattle.ds_base.specs.declared.memories.Memory.{Memory}
 use Rattle.ds_base.specs.declared.memories.Memory.TheVariants.{Main, Shared, Own7, Itcm, Dtcm, Palette, Vram, Oam}
-use Rattle.nds_words.specs.Words.{AskRun, AskList, AskAsm, AskTrace, AskPeek, AskDemo, AskNothing, memory_word}
+use Rattle.nds_words.specs.Words.{AskRun, AskList, AskAsm, AskTrace, AskPeek, AskDemo, AskSave, AskResume, AskNothing, memory_word}
 
 -- Words that would peek past the end of a memory.
 
@@ -52,6 +52,8 @@ past_the_end cart keys ticks word place_word count_word memory place count m p n
 past_the_end cart keys ticks word place_word count_word memory place count m p n small few past (AskAsm file) asks = absurd (omega (arith, ap length asks.0))
 past_the_end cart keys ticks word place_word count_word memory place count m p n small few past (AskTrace cart2 keys2 ticks2 proc count2) asks = absurd (omega (arith, ap length asks.0))
 past_the_end cart keys ticks word place_word count_word memory place count m p n small few past (AskDemo number ticks2) asks = absurd (omega (arith, ap length asks.0))
+past_the_end cart keys ticks word place_word count_word memory place count m p n small few past (AskSave cart2 keys2 ticks2) asks = absurd (omega (arith, ap length asks.0))
+past_the_end cart keys ticks word place_word count_word memory place count m p n small few past (AskResume state cart2 keys2 ticks2 keep) asks = absurd (omega (arith, ap length asks.0))
 past_the_end cart keys ticks word place_word count_word memory place count m p n small few past (AskPeek cart2 keys2 ticks2 memory2 place2 count2) asks =
     let inside : place2 + count2 ≤ memory_size memory2 = asks.1.3 in
     let bound = small_memory memory2 in

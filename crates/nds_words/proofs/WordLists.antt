@@ -22,17 +22,14 @@ three_of f (v ∷ w ∷ []) name b c h q r = absurd (omega (arith, h.0))
 three_of f (v ∷ w ∷ x ∷ []) name b c h q r = rw (sym h.1, q, r) refl
 three_of f (v ∷ w ∷ x ∷ u ∷ rest) name b c h q r = absurd (omega (arith, h.0))
 
-pub seven_of : {X : Type 0} (f : X → List ℕ) (xs : List X) (name : List ℕ) (b c d e i j : X) → AreOf name 7 (map f xs) → b ≡ get_or xs 1 b → c ≡ get_or xs 2 c → d ≡ get_or xs 3 d
-    → e ≡ get_or xs 4 e → i ≡ get_or xs 5 i → j ≡ get_or xs 6 j → map f xs ≡ name ∷ f b ∷ f c ∷ f d ∷ f e ∷ f i ∷ f j ∷ []
-seven_of f [] name b c d e i j h q r s t u w = absurd (omega (arith, h.0))
-seven_of f (a0 ∷ []) name b c d e i j h q r s t u w = absurd (omega (arith, h.0))
-seven_of f (a0 ∷ a1 ∷ []) name b c d e i j h q r s t u w = absurd (omega (arith, h.0))
-seven_of f (a0 ∷ a1 ∷ a2 ∷ []) name b c d e i j h q r s t u w = absurd (omega (arith, h.0))
-seven_of f (a0 ∷ a1 ∷ a2 ∷ a3 ∷ []) name b c d e i j h q r s t u w = absurd (omega (arith, h.0))
-seven_of f (a0 ∷ a1 ∷ a2 ∷ a3 ∷ a4 ∷ []) name b c d e i j h q r s t u w = absurd (omega (arith, h.0))
-seven_of f (a0 ∷ a1 ∷ a2 ∷ a3 ∷ a4 ∷ a5 ∷ []) name b c d e i j h q r s t u w = absurd (omega (arith, h.0))
-seven_of f (a0 ∷ a1 ∷ a2 ∷ a3 ∷ a4 ∷ a5 ∷ a6 ∷ []) name b c d e i j h q r s t u w = rw (sym h.1, q, r, s, t, u, w) refl
-seven_of f (a0 ∷ a1 ∷ a2 ∷ a3 ∷ a4 ∷ a5 ∷ a6 ∷ a7 ∷ rest) name b c d e i j h q r s t u w = absurd (omega (arith, h.0))
+pub four_of : {X : Type 0} (f : X → List ℕ) (xs : List X) (name : List ℕ) (b c d : X) → AreOf name 4 (map f xs) → b ≡ get_or xs 1 b → c ≡ get_or xs 2 c → d ≡ get_or xs 3 d
+    → map f xs ≡ name ∷ f b ∷ f c ∷ f d ∷ []
+four_of f [] name b c d h q r s = absurd (omega (arith, h.0))
+four_of f (v ∷ []) name b c d h q r s = absurd (omega (arith, h.0))
+four_of f (v ∷ w ∷ []) name b c d h q r s = absurd (omega (arith, h.0))
+four_of f (v ∷ w ∷ x ∷ []) name b c d h q r s = absurd (omega (arith, h.0))
+four_of f (v ∷ w ∷ x ∷ y ∷ []) name b c d h q r s = rw (sym h.1, q, r, s) refl
+four_of f (v ∷ w ∷ x ∷ y ∷ u ∷ rest) name b c d h q r s = absurd (omega (arith, h.0))
 
 -- the word for keys may name a file
 pub keys_named : (keys : Option (List ℕ)) → IsScriptName keys → IsName (keys_word keys)

@@ -1,4 +1,4 @@
-use Rattle.std.proofs.Common.{ℕ, zero, suc, ◌≡◌, ◌≢◌, ◌<◌, ◌≤◌, ◌+◌, ◌^◌, List, [], ◌∷◌, if◌then◌else◌, Option, Some, None, refl, sym, ◌∙◌, ap, arith}
+use Rattle.std.proofs.Common.{ℕ, zero, suc, ◌≡◌, ◌<◌, ◌≤◌, ◌^◌, List, [], ◌∷◌, length, if◌then◌else◌, Option, Some, None, refl, sym, ◌∙◌, ap, arith}
 use Rattle.std.specs.Prelude.{◌==◌}
 use Rattle.std.specs.Fmt.{decimal}
 use Rattle.std.proofs.lemmas.Fmt.{decimal_injective}
@@ -8,7 +8,7 @@ use Rattle.ds_base.specs.declared.processors.Proc.{Proc}
 use Rattle.ds_base.specs.declared.processors.Proc.TheVariants.{Nine, Seven}
 use Rattle.asm_text.specs.declared.sets.Set.{Set}
 use Rattle.asm_text.specs.declared.sets.Set.TheVariants.{Arm, Thumb}
-use Rattle.nds_words.specs.Words.{Asked, AskRun, AskList, AskAsm, AskTrace, AskPeek, AskDemo, IsAllowed, IsEnd, IsScriptName, WordsAskForOne, asked_words, image_word, keep_word, keys_word, memory_word, proc_word}
+use Rattle.nds_words.specs.Words.{Asked, AskRun, AskList, AskAsm, AskTrace, AskPeek, AskDemo, AskSave, AskResume, IsAllowed, IsEnd, IsScriptName, WordsAskForOne, asked_words, image_word, keep_word, keys_word, memory_word, proc_word}
 use Rattle.nds_words.specs.declared.commands.Keep.{Keep}
 use Rattle.nds_words.specs.declared.commands.Keep.TheVariants.{All, Last, Nothing}
 use Rattle.nds_words.proofs.Peeked.{small_memory}
@@ -123,6 +123,8 @@ run_one cart keys ticks keep (AskAsm _) first second e = absurd (let l : 114 ≡
 run_one cart keys ticks keep (AskTrace _ _ _ _ _) first second e = absurd (let l : 114 ≡ 116 = same_letter _ _ e in omega (arith, l))
 run_one cart keys ticks keep (AskPeek _ _ _ _ _ _) first second e = absurd (let l : 114 ≡ 112 = same_letter _ _ e in omega (arith, l))
 run_one cart keys ticks keep (AskDemo _ _) first second e = absurd (let l : 114 ≡ 100 = same_letter _ _ e in omega (arith, l))
+run_one cart keys ticks keep (AskSave _ _ _) first second e = absurd (let l : 114 ≡ 115 = same_letter _ _ e in omega (arith, l))
+run_one cart keys ticks keep (AskResume _ _ _ _ _) first second e = absurd (let l : 5 ≡ 6 = ap length e in omega (arith, l))
 
 list_one : (name : List ℕ) (proc : Proc) (set : Set) → OneAsked (AskList name proc set)
 unfolding word_at letter_at
@@ -136,6 +138,8 @@ list_one name proc set (AskAsm _) first second e = absurd (let l : 108 ≡ 97 = 
 list_one name proc set (AskTrace _ _ _ _ _) first second e = absurd (let l : 108 ≡ 116 = same_letter _ _ e in omega (arith, l))
 list_one name proc set (AskPeek _ _ _ _ _ _) first second e = absurd (let l : 108 ≡ 112 = same_letter _ _ e in omega (arith, l))
 list_one name proc set (AskDemo _ _) first second e = absurd (let l : 108 ≡ 100 = same_letter _ _ e in omega (arith, l))
+list_one name proc set (AskSave _ _ _) first second e = absurd (let l : 108 ≡ 115 = same_letter _ _ e in omega (arith, l))
+list_one name proc set (AskResume _ _ _ _ _) first second e = absurd (let l : 108 ≡ 114 = same_letter _ _ e in omega (arith, l))
 
 asm_one : (name : List ℕ) → OneAsked (AskAsm name)
 unfolding word_at letter_at
@@ -146,6 +150,8 @@ asm_one name (AskList _ _ _) first second e = absurd (let l : 97 ≡ 108 = same_
 asm_one name (AskTrace _ _ _ _ _) first second e = absurd (let l : 97 ≡ 116 = same_letter _ _ e in omega (arith, l))
 asm_one name (AskPeek _ _ _ _ _ _) first second e = absurd (let l : 97 ≡ 112 = same_letter _ _ e in omega (arith, l))
 asm_one name (AskDemo _ _) first second e = absurd (let l : 97 ≡ 100 = same_letter _ _ e in omega (arith, l))
+asm_one name (AskSave _ _ _) first second e = absurd (let l : 97 ≡ 115 = same_letter _ _ e in omega (arith, l))
+asm_one name (AskResume _ _ _ _ _) first second e = absurd (let l : 97 ≡ 114 = same_letter _ _ e in omega (arith, l))
 
 trace_one : (cart : List ℕ) (keys : Option (List ℕ)) (ticks : ℕ) (proc : Proc) (count : ℕ) → OneAsked (AskTrace cart keys ticks proc count)
 unfolding word_at letter_at
@@ -161,6 +167,8 @@ trace_one cart keys ticks proc count (AskList _ _ _) first second e = absurd (le
 trace_one cart keys ticks proc count (AskAsm _) first second e = absurd (let l : 116 ≡ 97 = same_letter _ _ e in omega (arith, l))
 trace_one cart keys ticks proc count (AskPeek _ _ _ _ _ _) first second e = absurd (let l : 116 ≡ 112 = same_letter _ _ e in omega (arith, l))
 trace_one cart keys ticks proc count (AskDemo _ _) first second e = absurd (let l : 116 ≡ 100 = same_letter _ _ e in omega (arith, l))
+trace_one cart keys ticks proc count (AskSave _ _ _) first second e = absurd (let l : 116 ≡ 115 = same_letter _ _ e in omega (arith, l))
+trace_one cart keys ticks proc count (AskResume _ _ _ _ _) first second e = absurd (let l : 116 ≡ 114 = same_letter _ _ e in omega (arith, l))
 
 peek_one : (cart : List ℕ) (keys : Option (List ℕ)) (ticks : ℕ) (memory : Memory) (place count : ℕ) → OneAsked (AskPeek cart keys ticks memory place count)
 unfolding word_at letter_at
@@ -181,6 +189,8 @@ peek_one cart keys ticks memory place count (AskList _ _ _) first second e = abs
 peek_one cart keys ticks memory place count (AskAsm _) first second e = absurd (let l : 112 ≡ 97 = same_letter _ _ e in omega (arith, l))
 peek_one cart keys ticks memory place count (AskTrace _ _ _ _ _) first second e = absurd (let l : 112 ≡ 116 = same_letter _ _ e in omega (arith, l))
 peek_one cart keys ticks memory place count (AskDemo _ _) first second e = absurd (let l : 112 ≡ 100 = same_letter _ _ e in omega (arith, l))
+peek_one cart keys ticks memory place count (AskSave _ _ _) first second e = absurd (let l : 112 ≡ 115 = same_letter _ _ e in omega (arith, l))
+peek_one cart keys ticks memory place count (AskResume _ _ _ _ _) first second e = absurd (let l : 112 ≡ 114 = same_letter _ _ e in omega (arith, l))
 
 demo_one : (number ticks : ℕ) → OneAsked (AskDemo number ticks)
 unfolding word_at letter_at
@@ -193,6 +203,40 @@ demo_one number ticks (AskList _ _ _) first second e = absurd (let l : 100 ≡ 1
 demo_one number ticks (AskAsm _) first second e = absurd (let l : 100 ≡ 97 = same_letter _ _ e in omega (arith, l))
 demo_one number ticks (AskTrace _ _ _ _ _) first second e = absurd (let l : 100 ≡ 116 = same_letter _ _ e in omega (arith, l))
 demo_one number ticks (AskPeek _ _ _ _ _ _) first second e = absurd (let l : 100 ≡ 112 = same_letter _ _ e in omega (arith, l))
+demo_one number ticks (AskSave _ _ _) first second e = absurd (let l : 100 ≡ 115 = same_letter _ _ e in omega (arith, l))
+demo_one number ticks (AskResume _ _ _ _ _) first second e = absurd (let l : 100 ≡ 114 = same_letter _ _ e in omega (arith, l))
+
+save_one : (cart : List ℕ) (keys : Option (List ℕ)) (ticks : ℕ) → OneAsked (AskSave cart keys ticks)
+unfolding word_at letter_at
+save_one cart keys ticks (AskSave cart₂ keys₂ ticks₂) first second e =
+    let c : cart ≡ cart₂ = same_word 1 _ _ e in
+    let k = keys_one keys keys₂ first.1 second.1 (same_word 2 _ _ e) in
+    let t = ticks_one ticks ticks₂ first.2 second.2 (same_word 3 _ _ e) in
+    rw (c, k, t) refl
+save_one cart keys ticks (AskRun _ _ _ _) first second e = absurd (let l : 115 ≡ 114 = same_letter _ _ e in omega (arith, l))
+save_one cart keys ticks (AskList _ _ _) first second e = absurd (let l : 115 ≡ 108 = same_letter _ _ e in omega (arith, l))
+save_one cart keys ticks (AskAsm _) first second e = absurd (let l : 115 ≡ 97 = same_letter _ _ e in omega (arith, l))
+save_one cart keys ticks (AskTrace _ _ _ _ _) first second e = absurd (let l : 115 ≡ 116 = same_letter _ _ e in omega (arith, l))
+save_one cart keys ticks (AskPeek _ _ _ _ _ _) first second e = absurd (let l : 115 ≡ 112 = same_letter _ _ e in omega (arith, l))
+save_one cart keys ticks (AskDemo _ _) first second e = absurd (let l : 115 ≡ 100 = same_letter _ _ e in omega (arith, l))
+save_one cart keys ticks (AskResume _ _ _ _ _) first second e = absurd (let l : 115 ≡ 114 = same_letter _ _ e in omega (arith, l))
+
+resume_one : (state cart : List ℕ) (keys : Option (List ℕ)) (ticks : ℕ) (keep : Keep) → OneAsked (AskResume state cart keys ticks keep)
+unfolding word_at letter_at
+resume_one state cart keys ticks keep (AskResume state₂ cart₂ keys₂ ticks₂ keep₂) first second e =
+    let s : state ≡ state₂ = same_word 1 _ _ e in
+    let c : cart ≡ cart₂ = same_word 2 _ _ e in
+    let k = keys_one keys keys₂ first.1.1 second.1.1 (same_word 3 _ _ e) in
+    let t = ticks_one ticks ticks₂ first.1.2 second.1.2 (same_word 4 _ _ e) in
+    let p = sym (keep_told keep) ∙ ap keep_in (same_word 5 _ _ e) ∙ keep_told keep₂ in
+    rw (s, c, k, t, p) refl
+resume_one state cart keys ticks keep (AskRun _ _ _ _) first second e = absurd (let l : 6 ≡ 5 = ap length e in omega (arith, l))
+resume_one state cart keys ticks keep (AskList _ _ _) first second e = absurd (let l : 114 ≡ 108 = same_letter _ _ e in omega (arith, l))
+resume_one state cart keys ticks keep (AskAsm _) first second e = absurd (let l : 114 ≡ 97 = same_letter _ _ e in omega (arith, l))
+resume_one state cart keys ticks keep (AskTrace _ _ _ _ _) first second e = absurd (let l : 114 ≡ 116 = same_letter _ _ e in omega (arith, l))
+resume_one state cart keys ticks keep (AskPeek _ _ _ _ _ _) first second e = absurd (let l : 114 ≡ 112 = same_letter _ _ e in omega (arith, l))
+resume_one state cart keys ticks keep (AskDemo _ _) first second e = absurd (let l : 114 ≡ 100 = same_letter _ _ e in omega (arith, l))
+resume_one state cart keys ticks keep (AskSave _ _ _) first second e = absurd (let l : 114 ≡ 115 = same_letter _ _ e in omega (arith, l))
 
 one_asked : (a : Asked) → OneAsked a
 one_asked (AskRun cart keys ticks keep) = run_one cart keys ticks keep
@@ -201,6 +245,8 @@ one_asked (AskAsm name) = asm_one name
 one_asked (AskTrace cart keys ticks proc count) = trace_one cart keys ticks proc count
 one_asked (AskPeek cart keys ticks memory place count) = peek_one cart keys ticks memory place count
 one_asked (AskDemo number ticks) = demo_one number ticks
+one_asked (AskSave cart keys ticks) = save_one cart keys ticks
+one_asked (AskResume state cart keys ticks keep) = resume_one state cart keys ticks keep
 
 pub words_are_one : WordsAskForOne
 words_are_one words a b first second = one_asked a b first.1 second.1 (sym first.0 ∙ second.0)

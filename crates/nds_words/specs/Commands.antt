@@ -1,7 +1,7 @@
 use Rattle.std.specs.Prelude.{option_map}
-use Rattle.nds_words.specs.Words.{Asked, AskRun, AskList, AskAsm, AskTrace, AskPeek, AskDemo}
+use Rattle.nds_words.specs.Words.{Asked, AskRun, AskList, AskAsm, AskTrace, AskPeek, AskDemo, AskSave, AskResume}
 use Rattle.nds_words.specs.declared.commands.Command.{Command}
-use Rattle.nds_words.specs.declared.commands.Command.TheVariants.{Run, List, Asm, Trace, Peek, Demo}
+use Rattle.nds_words.specs.declared.commands.Command.TheVariants.{Run, List, Asm, Trace, Peek, Demo, Save, Resume}
 
 -- What the code's commands stand for.
 
@@ -13,3 +13,5 @@ asked_by (Asm file) = AskAsm file.now
 asked_by (Trace files ticks proc count) = AskTrace files.cart.now (option_map (λ name. name.now) files.keys) ticks proc count
 asked_by (Peek files ticks memory place count) = AskPeek files.cart.now (option_map (λ name. name.now) files.keys) ticks memory place count
 asked_by (Demo number ticks) = AskDemo number ticks
+asked_by (Save files ticks) = AskSave files.cart.now (option_map (λ name. name.now) files.keys) ticks
+asked_by (Resume state files ticks keep) = AskResume state.now files.cart.now (option_map (λ name. name.now) files.keys) ticks keep

@@ -15,7 +15,9 @@ use Rattle.nds_words.specs.declared.commands.Keep.TheVariants.{All, Last, Nothin
 
 -- what may be asked for: to run a cartridge, with the keys of a script's file or with none, to a tick, and what to write; to list the
 -- image of one of a cartridge's processors in an instruction set; to assemble a listing's file; to run so and write the first steps of
--- one processor; to run so and write some bytes of a memory; to run the cartridge that is made from a number, and write what came of it
+-- one processor; to run so and write some bytes of a memory; to run the cartridge that is made from a number, and write what came of it;
+-- to run so and write the state at the tick; to go on from the state of a file, with the cartridge and the keys that it was saved with, to
+-- a later tick, and what to write
 pub data Asked : Type 0 where
   AskRun : (cart : List ℕ) → (keys : Option (List ℕ)) → (ticks : ℕ) → (keep : Keep) → Asked
   AskList : (cart : List ℕ) → (proc : Proc) → (set : Set) → Asked
@@ -23,6 +25,8 @@ pub data Asked : Type 0 where
   AskTrace : (cart : List ℕ) → (keys : Option (List ℕ)) → (ticks : ℕ) → (proc : Proc) → (count : ℕ) → Asked
   AskPeek : (cart : List ℕ) → (keys : Option (List ℕ)) → (ticks : ℕ) → (memory : Memory) → (place : ℕ) → (count : ℕ) → Asked
   AskDemo : (number : ℕ) → (ticks : ℕ) → Asked
+  AskSave : (cart : List ℕ) → (keys : Option (List ℕ)) → (ticks : ℕ) → Asked
+  AskResume : (state : List ℕ) → (cart : List ℕ) → (keys : Option (List ℕ)) → (ticks : ℕ) → (keep : Keep) → Asked
 
 -- the word for a run's keys: the script's file, or none
 abbrev pub keys_word : Option (List ℕ) → List ℕ
@@ -64,6 +68,8 @@ asked_words (AskTrace cart keys ticks proc count) = codes "trace" ∷ cart ∷ k
 asked_words (AskPeek cart keys ticks memory place count) =
     codes "peek" ∷ cart ∷ keys_word keys ∷ decimal ticks ∷ memory_word memory ∷ decimal place ∷ decimal count ∷ []
 asked_words (AskDemo number ticks) = codes "demo" ∷ decimal number ∷ decimal ticks ∷ []
+asked_words (AskSave cart keys ticks) = codes "save" ∷ cart ∷ keys_word keys ∷ decimal ticks ∷ []
+asked_words (AskResume state cart keys ticks keep) = codes "resume" ∷ state ∷ cart ∷ keys_word keys ∷ decimal ticks ∷ keep_word keep ∷ []
 
 -- a word that may name a file: it isn't empty and doesn't begin with '-'
 abbrev pub IsName : List ℕ → Type 0
@@ -90,6 +96,8 @@ IsAllowed (AskAsm file) = IsName file
 IsAllowed (AskTrace cart keys ticks proc count) = IsRun cart keys ticks × (1 ≤ count) × (count ≤ 1000000)
 IsAllowed (AskPeek cart keys ticks memory place count) = IsRun cart keys ticks × (1 ≤ count) × (count ≤ 4096) × (place + count ≤ memory_size memory)
 IsAllowed (AskDemo number ticks) = (number ≤ 4294967295) × IsEnd ticks
+IsAllowed (AskSave cart keys ticks) = IsRun cart keys ticks
+IsAllowed (AskResume state cart keys ticks keep) = IsName state × IsRun cart keys ticks
 
 -- the words ask for this
 abbrev pub Asks : List (List ℕ) → Asked → Type 0

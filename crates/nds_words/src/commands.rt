@@ -80,4 +80,22 @@ pub enum Command<'a> {
         /// The tick.
         ticks: u64,
     },
+    /// To run a cartridge, and write its state as it is then.
+    Save {
+        /// The run's files.
+        files: RunFiles<'a>,
+        /// The tick.
+        ticks: u64,
+    },
+    /// To go on from a saved state of a cartridge to a tick, and what to write.
+    Resume {
+        /// The name of the saved state's file.
+        state: &'a str,
+        /// The files of the run that was saved and goes on.
+        files: RunFiles<'a>,
+        /// The tick.
+        ticks: u64,
+        /// Which frames and lists are written.
+        keep: Keep,
+    },
 }

@@ -153,6 +153,40 @@ fn demo_of(word: &str, ticks: &str) -> Option<Command<'static>>
     })
 }
 
+/// What the words after `save` ask for.
+fn save_of<'a>(cart: &'a str, keys: &'a str, ticks: &str) -> Option<Command<'a>>
+    ensures some { IfSome result (λ c. Asks (codes "save" ∷ cart.entry.now ∷ keys.entry.now ∷ ticks.now ∷ []) (asked_by c)) }
+    ensures none { IfNone result (AskNothing (codes "save" ∷ cart.entry.now ∷ keys.entry.now ∷ ticks.now ∷ [])) }
+{
+    let (files, ticks) = run_words(cart, keys, ticks)?;
+    Some(Command::Save { files, ticks })
+}
+
+/// What the words after `resume` ask for.
+fn resume_of<'a>(
+    state: &'a str,
+    cart: &'a str,
+    keys: &'a str,
+    ticks: &str,
+    keep: &str,
+) -> Option<Command<'a>>
+    ensures some { IfSome result (λ c. Asks (codes "resume" ∷ state.entry.now ∷ cart.entry.now ∷ keys.entry.now ∷ ticks.now ∷ keep.now ∷ [])
+        (asked_by c)) }
+    ensures none { IfNone result (AskNothing (codes "resume" ∷ state.entry.now ∷ cart.entry.now ∷ keys.entry.now ∷ ticks.now ∷ keep.now ∷ [])) }
+{
+    if !is_name(state) {
+        return None;
+    }
+    let (files, ticks) = run_words(cart, keys, ticks)?;
+    let keep = keep_of(keep)?;
+    Some(Command::Resume {
+        state,
+        files,
+        ticks,
+        keep,
+    })
+}
+
 /// Whether words have a command's name and are as many as it has.
 fn are_of(words: &[String], name: &str, count: usize) -> bool
     requires { 0 < count }
@@ -162,6 +196,52 @@ fn are_of(words: &[String], name: &str, count: usize) -> bool
         return false;
     }
     words[0].as_str() == name
+}
+
+/// What the words of a trace ask for.
+fn trace_words(words: &[String]) -> Option<Command<'_>>
+    requires { AreOf (codes "trace") 6 (map string_bytes words.now) }
+    ensures some { IfSome result (λ c. Asks (map string_bytes words.entry.now) (asked_by c)) }
+    ensures none { IfNone result (AskNothing (map string_bytes words.entry.now)) }
+{
+    trace_of(
+        words[1].as_str(),
+        words[2].as_str(),
+        words[3].as_str(),
+        words[4].as_str(),
+        words[5].as_str(),
+    )
+}
+
+/// What the words of a peek ask for.
+fn peek_words(words: &[String]) -> Option<Command<'_>>
+    requires { AreOf (codes "peek") 7 (map string_bytes words.now) }
+    ensures some { IfSome result (λ c. Asks (map string_bytes words.entry.now) (asked_by c)) }
+    ensures none { IfNone result (AskNothing (map string_bytes words.entry.now)) }
+{
+    peek_of(
+        words[1].as_str(),
+        words[2].as_str(),
+        words[3].as_str(),
+        words[4].as_str(),
+        words[5].as_str(),
+        words[6].as_str(),
+    )
+}
+
+/// What the words of a run that goes on from a saved state ask for.
+fn resume_words(words: &[String]) -> Option<Command<'_>>
+    requires { AreOf (codes "resume") 6 (map string_bytes words.now) }
+    ensures some { IfSome result (λ c. Asks (map string_bytes words.entry.now) (asked_by c)) }
+    ensures none { IfNone result (AskNothing (map string_bytes words.entry.now)) }
+{
+    resume_of(
+        words[1].as_str(),
+        words[2].as_str(),
+        words[3].as_str(),
+        words[4].as_str(),
+        words[5].as_str(),
+    )
 }
 
 /// What the words ask for, where they ask for something: exactly the command that they are the words of. The program's own name
@@ -185,26 +265,19 @@ pub fn read_words(words: &[String]) -> Option<Command<'_>>
         return asm_of(words[1].as_str());
     }
     if are_of(words, "trace", 6) {
-        return trace_of(
-            words[1].as_str(),
-            words[2].as_str(),
-            words[3].as_str(),
-            words[4].as_str(),
-            words[5].as_str(),
-        );
+        return trace_words(words);
     }
     if are_of(words, "peek", 7) {
-        return peek_of(
-            words[1].as_str(),
-            words[2].as_str(),
-            words[3].as_str(),
-            words[4].as_str(),
-            words[5].as_str(),
-            words[6].as_str(),
-        );
+        return peek_words(words);
     }
     if are_of(words, "demo", 3) {
         return demo_of(words[1].as_str(), words[2].as_str());
+    }
+    if are_of(words, "save", 4) {
+        return save_of(words[1].as_str(), words[2].as_str(), words[3].as_str());
+    }
+    if are_of(words, "resume", 6) {
+        return resume_words(words);
     }
     None
 }

@@ -1,11 +1,10 @@
 use Rattle.std.specs.Prelude.{option_to_list}
-use Rattle.std.proofs.Common.{ℕ, ◌≡◌, ◌≤◌, ◌<◌, ◌+◌, ◌*◌, ◌^◌, Bool, true, false, List, [], ◌∷◌, ◌++◌, length, map, flat_map, Option, Some, None, option_map, refl, sym, subst, arith}
+use Rattle.std.proofs.Common.{ℕ, ◌≡◌, ◌≤◌, ◌<◌, ◌+◌, ◌*◌, ◌^◌, Bool, true, false, List, [], ◌∷◌, ◌++◌, length, Option, Some, None, option_map, refl, sym, subst, arith}
 use Rattle.std.specs.List.{concat}
 use Rattle.std.proofs.lemmas.List.{length-append}
 use Rattle.ds_base.specs.declared.left_out.LeftOut.{LeftOut}
 use Rattle.ds_base.specs.declared.memories.Memory.{Memory}
 use Rattle.ds_base.specs.declared.memories.Memory.TheVariants.{Main, Shared, Own7, Itcm, Dtcm, Palette, Vram, Oam}
-use Rattle.ds_base.specs.declared.processors.Proc.{Proc}
 use Rattle.ds_base.specs.declared.processors.Proc.TheVariants.{Nine, Seven}
 use Rattle.ds_base.specs.declared.ticks.Tick.{Tick}
 use Rattle.ds_machine.specs.Frames.{WholeFrame, framed_of, last_frame}
@@ -16,7 +15,7 @@ use Rattle.gx_geometry.specs.States.{Swapped}
 use Rattle.nds_records.specs.Lists.{lists_record, lists_records}
 use Rattle.nds_records.specs.Numbers.{halves, longs, words}
 use Rattle.nds_plays.specs.Inside.{ending}
-use Rattle.nds_plays.specs.Records.{all_memories, end_record, frame_record, frame_records, last_records, memory_record, stop_record, swapped_lists}
+use Rattle.nds_plays.specs.Records.{frame_record, frame_records, last_records, stop_record, swapped_lists}
 
 -- How long the records are.
 

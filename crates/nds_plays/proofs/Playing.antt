@@ -23,16 +23,16 @@ use Rattle.run_ahead.proofs.TurnExists.{turns_end}
 use Rattle.run_ahead.proofs.TurnRuns.{ran_to_end, turns_end_as_runs}
 use Rattle.gx_geometry.specs.States.{Swapped}
 use Rattle.nds_records.specs.Lists.{lists_records}
-use Rattle.nds_plays.specs.Inside.{ending, RunsTo, most_after, most_shown, shown_after, shown_now, shown_while}
+use Rattle.nds_plays.specs.Inside.{ending, RunsTo, most_after, most_shown, shown_after, shown_now}
 use Rattle.nds_plays.specs.Plays.{Wrote, WroteFront}
-use Rattle.nds_plays.specs.Records.{Latest, frame_records, kept_records, last_records, latest_after, latest_of, output_of, shown_records, swapped_lists}
+use Rattle.nds_plays.specs.Records.{Latest, frame_records, kept_records, last_records, latest_after, latest_of, output_of, shown_records, shown_while, swapped_lists}
 use Rattle.nds_plays.proofs.Lengths.{all_short}
 use Rattle.nds_words.specs.declared.commands.Keep.{Keep}
 use Rattle.nds_words.specs.declared.commands.Keep.TheVariants.{All, Last, Nothing}
 
 -- ---- frames and lists, one after another
 
-shown_join : (xs ys : List Shown) → flat_map shown_records (xs ++ ys) ≡ flat_map shown_records xs ++ flat_map shown_records ys
+pub shown_join : (xs ys : List Shown) → flat_map shown_records (xs ++ ys) ≡ flat_map shown_records xs ++ flat_map shown_records ys
 shown_join xs ys = flat_map-append shown_records xs ys
 
 -- the last one of those that a run put out, where it put out one
@@ -57,7 +57,7 @@ lists_then [] ys before = refl
 lists_then (x ∷ xs) ys before = one_first x.swapped x.lists xs ys (lists_then xs ys) before
 
 -- the last frame and the last lists together
-latest_follows : (old new : MachineState) (outs : List Shown) → FollowFrames old new outs → FollowLists old new outs → latest_of new ≡ latest_after (latest_of old) outs
+pub latest_follows : (old new : MachineState) (outs : List Shown) → FollowFrames old new outs → FollowLists old new outs → latest_of new ≡ latest_after (latest_of old) outs
 latest_follows old new outs frames lists =
     (let by_frame : Option WholeFrame → Latest = λ f. record { frame = f; lists = last_lists new } in ap by_frame frames)
     ∙ (let by_lists : Option Swapped → Latest = λ l. record { frame = last_or (last_frame old) (frames_shown outs); lists = l } in ap by_lists lists)
@@ -140,7 +140,7 @@ going_ran until start old now outs going ran = record {
   ends = λ end last rest. going.ends end last (ran_to_end until old now last end ran.turned ran.each_ran rest);
 }
 
-then_lists : (xs ys : List Shown) (before : Option Swapped) → last_or before (lists_shown (xs ++ ys)) ≡ last_or (last_or before (lists_shown xs)) (lists_shown ys)
+pub then_lists : (xs ys : List Shown) (before : Option Swapped) → last_or before (lists_shown (xs ++ ys)) ≡ last_or (last_or before (lists_shown xs)) (lists_shown ys)
 unfolding AreThen
 then_lists xs ys before = lists_then xs ys before
 

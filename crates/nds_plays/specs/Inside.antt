@@ -1,4 +1,4 @@
-use Rattle.std.specs.Prelude.{ℕ, ◌≡◌, ◌≤◌, ◌*◌, Bool, List, [], ◌++◌, flat_map, length, Option, Some, None, option_to_list, Result, Ok, Err, max}
+use Rattle.std.specs.Prelude.{ℕ, ◌≡◌, ◌≤◌, ◌*◌, Bool, List, [], ◌++◌, length, Option, Some, None, option_to_list, Result, Ok, Err, max}
 use Rattle.ds_base.specs.declared.left_out.LeftOut.{LeftOut}
 use Rattle.ds_io.specs.Faults.{Rose}
 use Rattle.ds_io.specs.Sinks.{Appended}
@@ -12,7 +12,7 @@ use Rattle.run_ahead.specs.Turns.{HasTurned}
 use Rattle.run_ahead.specs.Consoles.{ConsoleState}
 use Rattle.nds_plays.specs.Plays.{WroteFront}
 use Rattle.nds_records.specs.Lists.{lists_records}
-use Rattle.nds_plays.specs.Records.{Latest, frame_records, latest_records, shown_records, swapped_lists}
+use Rattle.nds_plays.specs.Records.{Latest, frame_records, latest_records, shown_while, swapped_lists}
 use Rattle.nds_words.specs.declared.commands.Keep.{Keep}
 use Rattle.nds_words.specs.declared.commands.Keep.TheVariants.{All, Last, Nothing}
 
@@ -34,13 +34,7 @@ pub record RunsTo (until : ℕ) (old : ConsoleState) (stop : Option LeftOut) (ne
   pub turned : HasTurned until old new
   pub to_end : TurnsToEnd until old (ending stop new.machine) new
 
--- what is written of frames and lists while a run puts them out
-abbrev pub shown_while : Keep → List Shown → List ℕ
-shown_while All outs = flat_map shown_records outs
-shown_while Last outs = []
-shown_while Nothing outs = []
-
--- and after it, by the last ones then
+-- what is written of frames and lists after a run, by the last ones then
 abbrev pub shown_after : Keep → Latest → List ℕ
 shown_after All latest = []
 shown_after Last latest = latest_records latest

@@ -1,8 +1,10 @@
 pub mod Inside
 pub mod Plays
 pub mod Records
+pub mod States
 pub mod TraceParts
 pub mod Watches
 pub mod Taken
 pub mod Demos
 pub mod Calls
+pub mod Cuts

@@ -90,6 +90,12 @@ kept_records All before outs = flat_map shown_records outs
 kept_records Last before outs = latest_records (latest_after before outs)
 kept_records Nothing before outs = []
 
+-- what is written of them while the run puts them out
+abbrev pub shown_while : Keep → List Shown → List ℕ
+shown_while All outs = flat_map shown_records outs
+shown_while Last outs = []
+shown_while Nothing outs = []
+
 -- what comes after them
 abbrev pub last_records : (until turns : ℕ) → Ending MachineState LeftOut → List ℕ
 last_records until turns (At s) = concat (memory_record s ++ end_record until turns s)

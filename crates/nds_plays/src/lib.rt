@@ -17,7 +17,13 @@
 //! `demo_cart`: the cartridge that is made from a number is exactly its definition (clause `file`), and is accepted (`accepted`).
 //! `HashSink::count` is how many bytes were taken modulo 2^64, and `HashSink::digest` their SHA-256, with none kept. `seat_run`: from the
 //! files of a run a console is switched on where it stays, in its seat, or it is said why it isn't (`RefusesRun`), and then the seat is
-//! empty.
+//! empty. `seat_resumed` does the same with the console that a saved console's file stands for, with the SHA-256 of the cartridge's bytes; it
+//! is told by the first field of that file that isn't whole or breaks its rule where it stands for none (`RefusesState`).
+//!
+//! Proved, of saving: `save` writes exactly the bytes of the console that the run comes to; where it stops, or where there is no memory for
+//! them, nothing. They are read back as that console (clause `back`) where the one that ran was ready, as one that was just switched on is
+//! (`switch_on`, `seat_run`: clause `ready`). `cut_laws`: the output of a run to a tick is what is written while its front runs to an earlier
+//! tick, and then the output of the run from the machine to which that comes.
 #![tactic(auto)]
 
 mod carts;
@@ -28,13 +34,15 @@ mod peeks;
 mod plays;
 mod records;
 mod seats;
+mod states;
 mod steps;
 mod throughs;
 
 pub use carts::demo_cart;
 pub use demos::demo;
-pub use laws::trace_laws;
+pub use laws::{cut_laws, trace_laws};
 pub use peeks::peek;
 pub use plays::{Played, play};
-pub use seats::{empty_seat, let_go, seat_run, switch_on};
+pub use seats::{clear_seat, empty_seat, let_go, put_resumed, seat_resumed, seat_run, switch_on};
+pub use states::save;
 pub use steps::trace;

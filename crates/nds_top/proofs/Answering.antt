@@ -5,7 +5,7 @@ use Rattle.run_ahead.specs.Consoles.{ConsoleState}
 use Rattle.run_ahead.specs.Turns.{TurnsAddUp}
 use Rattle.nds_words.specs.declared.commands.Keep.{Keep}
 use Rattle.nds_answers.specs.declared.statuses.Status.{Status}
-use Rattle.nds_answers.specs.declared.statuses.Status.TheVariants.{Done, Usage, NoFile, ReadFault, WriteFault, TooLong, BadHeader, BadScript, LeftOut, BadText, NoMemory}
+use Rattle.nds_answers.specs.declared.statuses.Status.TheVariants.{Done, Usage, NoFile, ReadFault, WriteFault, TooLong, BadHeader, BadScript, LeftOut, BadText, BadState, NoMemory}
 use Rattle.nds_plays.specs.Calls.{around, IsSwitchedOn}
 use Rattle.nds_plays.proofs.Seating.{seated_is}
 use Rattle.nds_plays.specs.declared.plays.Played.TheVariants as answers
@@ -34,4 +34,5 @@ module _ {F S : Type 0} (told : F → Option Told) (shelf_faults : F → ℕ) (t
   runs_give cart keys ticks keep seat start console (BadHeader fault) sum on is ran = absurd ran
   runs_give cart keys ticks keep seat start console (BadScript line column) sum on is ran = absurd ran
   runs_give cart keys ticks keep seat start console (BadText line) sum on is ran = absurd ran
+  runs_give cart keys ticks keep seat start console (BadState offset) sum on is ran = absurd ran
   runs_give cart keys ticks keep seat start console NoMemory sum on is ran = absurd ran

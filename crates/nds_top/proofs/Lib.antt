@@ -1,5 +1,8 @@
 mod OneAnswer
 mod Outcomes
+mod ResumeOutcomes
 pub mod Answering
+pub mod Resuming
 pub mod Running
 pub mod Viewing
+mod GoingOn

@@ -16,7 +16,7 @@ use Rattle.asm_files.specs.Listings.{IsFirstBad, IsListing}
 use Rattle.asm_text.specs.declared.sets.Set.{Set}
 use Rattle.run_ahead.specs.Consoles.{ConsoleState}
 use Rattle.run_ahead.specs.ToEnd.{TurnsAreOne, TurnsToEnd}
-use Rattle.nds_words.specs.Words.{Asked, AskRun, AskList, AskAsm, AskTrace, AskPeek, AskDemo, Asks, WordsAskForOne}
+use Rattle.nds_words.specs.Words.{Asked, AskRun, AskList, AskAsm, AskTrace, AskPeek, AskDemo, AskSave, AskResume, Asks, WordsAskForOne}
 use Rattle.nds_words.specs.declared.commands.Keep.{Keep}
 use Rattle.nds_answers.specs.Statuses.{status_number}
 use Rattle.nds_answers.specs.declared.statuses.Status.{Status}
@@ -32,6 +32,10 @@ use Rattle.nds_plays.specs.declared.plays.Played.TheVariants as played
 use Rattle.nds_top.specs.RunAnswers.{RunGives}
 use Rattle.nds_top.specs.ViewAnswers.{DemoGives, GivesBy, TracedBy, WroteAfter, demo_booted}
 use Rattle.nds_plays.specs.Watches.{IsAt, LinesAreOne, demo_of, run_lines, peeked, trace_of}
+use Rattle.nds_answers.specs.Loads.{RefusesFiles}
+use Rattle.nds_plays.specs.States.{IsBadState, IsState, saved_after}
+use Rattle.nds_top.specs.StateAnswers.{ResumeGives, SavedBy}
+use Rattle.nds_top.proofs.ResumeOutcomes.{ResumeComes, bad_state, resume_comes_one, resume_refused, resumed, state_comes}
 use Rattle.nds_top.specs.Answers.{CommandGives, Gives, nothing, command}
 use Rattle.nds_top.specs.Laws.{CanBeDone, ComesTo, HadNoFault}
 use Rattle.nds_top.proofs.Outcomes.{IsOne, ReadLaws, RunComes, loaded, cart_fine, cart_refusal, cart_refused, loaded_comes, memory_or_not, not_both, read_fine, refusal, refused, run_comes_one, run_refused, same_file}
@@ -62,6 +66,16 @@ pub record RunWrites (keep : Keep) (ticks : ℕ) (boot : MachineState) (s : Stat
   pub ran : Runs reference ticks end boot outs
   pub status : s ≡ status_at end
   pub is : bytes ≡ output_of ticks last.turns keep (latest_of boot) end outs
+
+-- the same of a run that goes on from a console
+pub record ResumeWrites (keep : Keep) (ticks : ℕ) (start : ConsoleState) (s : Status) (bytes : List ℕ) : Type 0 where
+  pub end : Ending MachineState LeftOut
+  pub last : ConsoleState
+  pub outs : List Shown
+  pub turns : TurnsToEnd ticks start end last
+  pub ran : Runs reference ticks end start.machine outs
+  pub status : s ≡ status_at end
+  pub is : bytes ≡ output_of ticks last.turns keep (latest_of start.machine) end outs
 
 -- the lines of its steps
 abbrev pub TraceEnds : ℕ → ℕ → Ending MachineState LeftOut → Status → Type 0
@@ -99,6 +113,16 @@ module _ (laws : TopLaws) where
         a.is ∙ ap (λ (k : ConsoleState). output_of ticks k.turns keep (latest_of boot) a.end a.outs) e.1
             ∙ ap (λ (x : Ending MachineState LeftOut). output_of ticks b.last.turns keep (latest_of boot) x a.outs) e.0
             ∙ ap (λ (o : List Shown). output_of ticks b.last.turns keep (latest_of boot) b.end o) r.1 ∙ sym b.is,
+      )
+
+  pub resume_one : (keep : Keep) (ticks : ℕ) (start : ConsoleState) → IsOne (ResumeWrites keep ticks start)
+  resume_one keep ticks start s t xs ys a b =
+      let e = laws.turns ticks start a.last b.last a.end b.end a.turns b.turns in
+      let r = laws.runs ticks start.machine a.end b.end a.outs b.outs a.ran b.ran in (
+        a.status ∙ ap status_at e.0 ∙ sym b.status,
+        a.is ∙ ap (λ (k : ConsoleState). output_of ticks k.turns keep (latest_of start.machine) a.end a.outs) e.1
+            ∙ ap (λ (x : Ending MachineState LeftOut). output_of ticks b.last.turns keep (latest_of start.machine) x a.outs) e.0
+            ∙ ap (λ (o : List Shown). output_of ticks b.last.turns keep (latest_of start.machine) b.end o) r.1 ∙ sym b.is,
       )
 
   trace_status : (count n : ℕ) (end : Ending MachineState LeftOut) (s t : Status) → TraceEnds count n end s → TraceEnds count n end t → s ≡ t
@@ -157,6 +181,8 @@ Comes files (AskList name proc set) s bytes = ListComes files name proc set s by
 Comes files (AskAsm name) s bytes = AsmComes files name s bytes
 Comes files (AskTrace cart keys ticks proc count) s bytes = RunComes files cart keys (TraceWrites proc count ticks) s bytes
 Comes files (AskPeek cart keys ticks memory place count) s bytes = RunComes files cart keys (AfterWrites (peeked memory place count) ticks) s bytes
+Comes files (AskSave cart keys ticks) s bytes = RunComes files cart keys (AfterWrites saved_after ticks) s bytes
+Comes files (AskResume state cart keys ticks keep) s bytes = ResumeComes files state cart keys ticks (ResumeWrites keep ticks) s bytes
 Comes files (AskDemo number ticks) s bytes = AfterWrites (demo_of number ticks (demo_booted number)) ticks (demo_booted number) s bytes
 
 module _ (laws : TopLaws) (files : List Named) where
@@ -207,6 +233,8 @@ module _ (laws : TopLaws) (files : List Named) where
   comes_one (AskTrace cart keys ticks proc count) = run_comes_one reads files cart keys (TraceWrites proc count ticks) (trace_one laws proc count ticks)
   comes_one (AskPeek cart keys ticks memory place count) =
       run_comes_one reads files cart keys (AfterWrites (peeked memory place count) ticks) (after_one laws (peeked memory place count) ticks)
+  comes_one (AskSave cart keys ticks) = run_comes_one reads files cart keys (AfterWrites saved_after ticks) (after_one laws saved_after ticks)
+  comes_one (AskResume state cart keys ticks keep) = resume_comes_one reads files state cart keys ticks (ResumeWrites keep ticks) (resume_one laws keep ticks)
   comes_one (AskDemo number ticks) = after_one laws (demo_of number ticks (demo_booted number)) ticks (demo_booted number)
 
 -- ---- so it is of a call
@@ -290,6 +318,34 @@ module _ {S : Type 0} (c : Call S) (files : List Named) (told : c.files ≡ Some
   after_stop tell ticks left boot h =
       (let k = seated_console c.seat _ h.1 in let w = k.1.1.0 in untouched (AfterWrites tell ticks boot (statuses.LeftOut left)) h.0 (w.0, w.1, refl))
 
+  -- where the run goes on from a saved console
+  resume_told : (state cart : List ℕ) (keys : Option (List ℕ)) (ticks : ℕ) (keep : Keep) (named : List ℕ) (s : Status) → s ≢ statuses.NoMemory → ResumeGives c state cart keys ticks keep named s
+      → WroteSo (ResumeComes files state cart keys ticks (ResumeWrites keep ticks) s)
+  resume_told state cart keys ticks keep named statuses.Done ne h =
+      (let k = seated_console c.seat _ h.2 in
+      let w = k.1.1.0 in (
+        _,
+        resumed h.0 (by_told (λ f. IsState f state cart keys ticks h.0) h.1)
+            (record { end = At k.0.machine; last = k.0; outs = w.outs; turns = w.turns; ran = w.ran; status = refl; is = refl }),
+        w.written,
+      ))
+  resume_told state cart keys ticks keep named (statuses.LeftOut left) ne h =
+      (let k = seated_console c.seat _ h.2 in
+      let w = k.1.1.0 in (
+        _,
+        resumed h.0 (by_told (λ f. IsState f state cart keys ticks h.0) h.1)
+            (record { end = Stopped left; last = k.0; outs = w.outs; turns = w.turns; ran = w.ran; status = refl; is = refl }),
+        w.written,
+      ))
+  resume_told state cart keys ticks keep named statuses.WriteFault ne h = absurd (none.out h.0)
+  resume_told state cart keys ticks keep named (statuses.BadState offset) ne h =
+      untouched (ResumeComes files state cart keys ticks (ResumeWrites keep ticks) (statuses.BadState offset)) h.0.0
+      (bad_state offset (by_told (λ f. IsBadState f state cart keys ticks offset) h.1) refl refl)
+  resume_told state cart keys ticks keep named s ne h =
+      let no = by_told (λ f. RefusesFiles f (Rose c.shelf_before c.shelf_after) state cart keys s named) h.1 in
+      untouched (ResumeComes files state cart keys ticks (ResumeWrites keep ticks) s) h.0.0
+      (resume_refused files (Rose c.shelf_before c.shelf_after) state cart keys ticks (ResumeWrites keep ticks) s named none.shelf ne no)
+
   demo_told : (number ticks : ℕ) (s : Status) → s ≢ statuses.NoMemory → DemoGives c number ticks s → WroteSo (Comes files (AskDemo number ticks) s)
   demo_told number ticks statuses.Done ne h = after_done (demo_of number ticks (demo_booted number)) ticks (demo_booted number) h
   demo_told number ticks (statuses.LeftOut left) ne h = after_stop (demo_of number ticks (demo_booted number)) ticks left (demo_booted number) h
@@ -322,6 +378,9 @@ module _ {S : Type 0} (c : Call S) (files : List Named) (told : c.files ≡ Some
   command_told (AskPeek cart keys ticks memory place count) named s ne h =
       by_told_views cart keys (WroteAfter c ticks (peeked memory place count)) (AfterWrites (peeked memory place count) ticks) named s ne (after_done (peeked memory place count) ticks)
       (after_stop (peeked memory place count) ticks) (λ boot w. none.out w.0) h
+  command_told (AskSave cart keys ticks) named s ne h =
+      by_told_views cart keys (SavedBy c ticks) (AfterWrites saved_after ticks) named s ne (λ boot w. after_done saved_after ticks boot w.0) (after_stop saved_after ticks) (λ boot w. none.out w.0) h
+  command_told (AskResume state cart keys ticks keep) named s ne h = resume_told state cart keys ticks keep named s ne h
   command_told (AskDemo number ticks) named s ne h = demo_told number ticks s ne h
 
 -- ---- what can be done is done
@@ -352,6 +411,12 @@ module _ (laws : TopLaws) (files : List Named) where
   done_then (AskPeek cart keys ticks memory place count) s bytes can h =
       after_ends (peeked memory place count) ticks (machine_booted can.0 can.1) s bytes can.4
       (loaded_comes laws.reads files cart keys (AfterWrites (peeked memory place count) ticks) s bytes can.0 can.1 can.2 can.3 h)
+  done_then (AskSave cart keys ticks) s bytes can h =
+      after_ends saved_after ticks (machine_booted can.0 can.1) s bytes can.4 (loaded_comes laws.reads files cart keys (AfterWrites saved_after ticks) s bytes can.0 can.1 can.2 can.3 h)
+  done_then (AskResume state cart keys ticks keep) s bytes can h =
+      let w = state_comes laws.reads files state cart keys ticks (ResumeWrites keep ticks) s bytes can.0 can.1 h in
+      let to = can.2 in
+      w.status ∙ ap status_at (laws.runs ticks can.0.machine w.end (At to.0) w.outs to.1 w.ran to.2).0
   done_then (AskDemo number ticks) s bytes can h = after_ends (demo_of number ticks (demo_booted number)) ticks (demo_booted number) s bytes can h
 
 -- ---- the top call

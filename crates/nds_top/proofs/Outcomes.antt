@@ -10,7 +10,7 @@ use Rattle.asm_files.specs.Listings.{IsFirstBad, IsListing}
 use Rattle.nds_words.specs.Scripts.{IsFirstBadAt, IsScript}
 use Rattle.nds_answers.specs.Statuses.{status_number}
 use Rattle.nds_answers.specs.declared.statuses.Status.{Status}
-use Rattle.nds_answers.specs.declared.statuses.Status.TheVariants.{Done, Usage, NoFile, ReadFault, WriteFault, TooLong, BadHeader, BadScript, LeftOut, BadText, NoMemory}
+use Rattle.nds_answers.specs.declared.statuses.Status.TheVariants.{Done, Usage, NoFile, ReadFault, WriteFault, TooLong, BadHeader, BadScript, LeftOut, BadText, BadState, NoMemory}
 use Rattle.nds_answers.specs.Loads.{AreKeys, IsCart, IsFileRead, Refuses, RefusesCart, RefusesRun, RefusesScript, cartridge, script, most_bytes, most_script}
 
 -- What comes of the files that are asked for, by what they are: a refusal, or their bytes.
@@ -37,6 +37,7 @@ memory_or_not (BadHeader fault) = memory_by (BadHeader fault) (λ e. absurd (ome
 memory_or_not (BadScript line column) = memory_by (BadScript line column) (λ e. absurd (omega (arith, e)))
 memory_or_not (LeftOut left) = memory_by (LeftOut left) (λ e. absurd (omega (arith, e)))
 memory_or_not (BadText line) = memory_by (BadText line) (λ e. absurd (omega (arith, e)))
+memory_or_not (BadState offset) = memory_by (BadState offset) (λ e. absurd (omega (arith, e)))
 
 -- ---- a file
 
@@ -73,6 +74,7 @@ module _ (files : List Named) (rose : Type 0) (none_rose : rose → ⊥) where
   refused name limit (BadScript line column) ne h = absurd h
   refused name limit (LeftOut left) ne h = absurd h
   refused name limit (BadText line) ne h = absurd h
+  refused name limit (BadState offset) ne h = absurd h
 
   short_refusal : (bytes : List ℕ) → length bytes ≤ most_bytes → cart_refusal (Some bytes) ≡ option_map BadHeader (fault_of bytes)
   unfolding cart_refusal
@@ -93,6 +95,7 @@ module _ (files : List Named) (rose : Type 0) (none_rose : rose → ⊥) where
   cart_refused name (BadScript line column) ne h = absurd h
   cart_refused name (LeftOut left) ne h = absurd h
   cart_refused name (BadText line) ne h = absurd h
+  cart_refused name (BadState offset) ne h = absurd h
 
   -- of a key script: its first bad line, or the file's refusal
   pub script_refused : (name : List ℕ) (s : Status) → s ≢ NoMemory → RefusesScript (Some files) rose name s → ScriptRefused files name s
@@ -107,6 +110,7 @@ module _ (files : List Named) (rose : Type 0) (none_rose : rose → ⊥) where
   script_refused name (BadHeader fault) ne h = absurd h
   script_refused name (LeftOut left) ne h = absurd h
   script_refused name (BadText line) ne h = absurd h
+  script_refused name (BadState offset) ne h = absurd h
 
 -- what is read isn't refused
 pub read_fine : (files : List Named) (name : List ℕ) (limit : ℕ) (bytes : List ℕ) → IsFileRead (Some files) name limit bytes → refusal limit (file_of files name) ≡ None
@@ -170,13 +174,13 @@ module _ (laws : ReadLaws) (files : List Named) where
       let same = same_file files name most_script a.3.0 keys.0 a.3.1 keys.1 in
       laws.script_good keys.0 lines a.0 a.1 keys.2 (subst (λ (text : List ℕ). IsFirstBadAt text a.0 a.1) same a.3.2)
 
-  keys_one : (keys : Option (List ℕ)) (a b : List KeyLine) → AreKeys (Some files) keys a → AreKeys (Some files) keys b → a ≡ b
+  pub keys_one : (keys : Option (List ℕ)) (a b : List KeyLine) → AreKeys (Some files) keys a → AreKeys (Some files) keys b → a ≡ b
   keys_one None a b first second = first ∙ sym second
   keys_one (Some name) a b first second =
       let same = same_file files name most_script first.0 second.0 first.1 second.1 in
       laws.script_one second.0 a b (subst (λ (text : List ℕ). IsScript text a) same first.2) second.2
 
-  cart_one : (cart a b : List ℕ) → IsCart (Some files) cart a → IsCart (Some files) cart b → a ≡ b
+  pub cart_one : (cart a b : List ℕ) → IsCart (Some files) cart a → IsCart (Some files) cart b → a ≡ b
   cart_one cart a b first second = same_file files cart most_bytes a b first.whole second.whole
 
   -- where they are read, what comes of them is what comes of the run

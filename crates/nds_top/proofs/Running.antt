@@ -12,7 +12,7 @@ use Rattle.nds_plays.specs.Plays.{Plays}
 use Rattle.nds_words.specs.declared.commands.Keep.{Keep}
 use Rattle.nds_plays.specs.declared.plays.Played.{Played}
 use Rattle.nds_answers.specs.declared.statuses.Status.{Status}
-use Rattle.nds_answers.specs.declared.statuses.Status.TheVariants.{Done, Usage, NoFile, ReadFault, WriteFault, TooLong, BadHeader, BadScript, LeftOut, BadText, NoMemory}
+use Rattle.nds_answers.specs.declared.statuses.Status.TheVariants.{Done, Usage, NoFile, ReadFault, WriteFault, TooLong, BadHeader, BadScript, LeftOut, BadText, BadState, NoMemory}
 
 -- what playing does to a console, at the console that was switched on
 pub played_from_boot : {S : Type 0} (tells : S → Bool) (taken : S → List ℕ → Type 0) (faults : S → ℕ) (ticks : ℕ) (keep : Keep) (boot : MachineState) (old new : ConsoleState) (before after : S) (answer : Played)
@@ -48,4 +48,5 @@ refused_gives c cart keys ticks keep named TooLong untouched refused = (untouche
 refused_gives c cart keys ticks keep named (BadHeader fault) untouched refused = (untouched, refused)
 refused_gives c cart keys ticks keep named (BadScript line column) untouched refused = (untouched, refused)
 refused_gives c cart keys ticks keep named (BadText line) untouched refused = (untouched, refused)
+refused_gives c cart keys ticks keep named (BadState offset) untouched refused = (untouched, refused)
 refused_gives c cart keys ticks keep named NoMemory untouched refused = (untouched, refused)

@@ -1,10 +1,11 @@
-use Rattle.std.proofs.Common.{ℕ, ◌≡◌, List, [], Bool, Option, Some, None, refl, subst}
+use Rattle.std.proofs.Common.{ℕ, ◌≡◌, List, Bool, Option, Some, None, refl, subst}
 use Rattle.ds_base.specs.declared.keys.KeyLine.{KeyLine}
 use Rattle.ds_base.specs.declared.processors.Proc.{Proc}
 use Rattle.ds_io.specs.Faults.{Rose}
 use Rattle.ds_io.specs.Shelves.{Told}
 use Rattle.ds_machine.specs.Booted.{machine_booted}
 use Rattle.ds_machine.specs.Reference.{Shown}
+use Rattle.ds_machine.specs.Sound.{HasSoundParts}
 use Rattle.ds_machine.specs.States.{MachineState}
 use Rattle.run_ahead.specs.Consoles.{ConsoleState}
 use Rattle.run_ahead.specs.Turns.{TurnsAddUp}
@@ -15,7 +16,9 @@ use Rattle.nds_answers.specs.Loads.{RefusesRun, cartridge, script}
 use Rattle.nds_plays.specs.declared.plays.Played.{Played}
 use Rattle.nds_plays.specs.declared.plays.Played.TheVariants.{Done, LeftOut, WriteFault}
 use Rattle.nds_top.proofs.Running.{at_ticks, after_its_turns}
+use Rattle.nds_plays.specs.States.{IsReady, SavesWhole, saved_after}
 use Rattle.nds_plays.specs.Watches.{Traces, WritesAfter, demo_of}
+use Rattle.nds_top.specs.StateAnswers.{SavedBy}
 use Rattle.nds_top.specs.ViewAnswers.{GivesBy, TracedBy, WroteAfter, DemoGives, demo_booted}
 use Rattle.nds_top.specs.Inside.{played_status}
 
@@ -42,6 +45,7 @@ gives_refused c cart keys did named statuses.TooLong untouched refused = (untouc
 gives_refused c cart keys did named (statuses.BadHeader fault) untouched refused = (untouched, refused)
 gives_refused c cart keys did named (statuses.BadScript line column) untouched refused = (untouched, refused)
 gives_refused c cart keys did named (statuses.BadText line) untouched refused = (untouched, refused)
+gives_refused c cart keys did named (statuses.BadState offset) untouched refused = (untouched, refused)
 gives_refused c cart keys did named statuses.NoMemory untouched refused = (untouched, refused)
 
 module _ {F S : Type 0} (told : F → Option Told) (shelf_faults : F → ℕ) (tells : S → Bool) (taken : S → List ℕ → Type 0) (faults : S → ℕ) (shelf_old shelf_new : F) (old new : S) where
@@ -70,6 +74,15 @@ module _ {F S : Type 0} (told : F → Option Told) (shelf_faults : F → ℕ) (t
       let P : ConsoleState → Type 0 = λ k. WritesAfter tells taken faults ticks bytes k old WriteFault console new in
       let w = subst P is wrote in
       (w.0, (after_its_turns ticks file lines console sum w.1.1.3, ((w.1.0, w.1.1.0, w.1.2), at_ticks _ _ w.1.1.2, w.1.1.1, w.1.1.4)))
+
+  -- and where that was a saved console
+  pub saved_in : (ticks : ℕ) (file : List ℕ) (lines : List KeyLine) (start console : ConsoleState) (answer : Played) → TurnsAddUp → start ≡ switched_on (machine_booted file lines) → IsReady start
+      → WritesAfter tells taken faults ticks saved_after start old answer console new → SavesWhole start answer console
+      → SavedBy (around told shelf_faults tells taken faults shelf_old shelf_new old new (Some console)) ticks answer (machine_booted file lines)
+  saved_in ticks file lines start console Done sum is ready wrote back =
+      (wrote_in ticks saved_after file lines start console Done sum is wrote, subst (λ (k : ConsoleState). HasSoundParts k.machine) is ready.parts, back ready)
+  saved_in ticks file lines start console (LeftOut left) sum is ready wrote back = wrote_in ticks saved_after file lines start console (LeftOut left) sum is wrote
+  saved_in ticks file lines start console WriteFault sum is ready wrote back = wrote_in ticks saved_after file lines start console WriteFault sum is wrote
 
 -- what a demo did gives the status of how its run went
 pub demo_done : {S : Type 0} (c : Call S) (number ticks : ℕ) (answer : Played) → WroteAfter c ticks (demo_of number ticks (demo_booted number)) answer (demo_booted number) → DemoGives c number ticks (played_status answer)

@@ -1,11 +1,12 @@
 use Rattle.std.specs.Prelude.{ℕ, ◌≡◌, List}
-use Rattle.nds_words.specs.Words.{Asked, AskRun, AskList, AskAsm, AskTrace, AskPeek, AskDemo, Asks, AskNothing}
+use Rattle.nds_words.specs.Words.{Asked, AskRun, AskList, AskAsm, AskTrace, AskPeek, AskDemo, AskSave, AskResume, Asks, AskNothing}
 use Rattle.nds_answers.specs.Notes.{note_of}
 use Rattle.nds_answers.specs.declared.statuses.Status.{Status}
 use Rattle.nds_answers.specs.declared.statuses.Status.TheVariants.{Usage}
 use Rattle.nds_plays.specs.Calls.{Call, IsUntouched}
 use Rattle.nds_top.specs.ListingAnswers.{ListGives, AsmGives}
 use Rattle.nds_top.specs.RunAnswers.{RunGives}
+use Rattle.nds_top.specs.StateAnswers.{SaveGives, ResumeGives}
 use Rattle.nds_top.specs.ViewAnswers.{TraceGives, PeekGives, DemoGives}
 
 -- When each answer of the top call comes, and what it leaves.
@@ -18,6 +19,8 @@ CommandGives c (AskAsm name) named status = AsmGives c name status × (named ≡
 CommandGives c (AskTrace cart keys ticks proc count) named status = TraceGives c cart keys ticks proc count named status
 CommandGives c (AskPeek cart keys ticks memory place count) named status = PeekGives c cart keys ticks memory place count named status
 CommandGives c (AskDemo number ticks) named status = DemoGives c number ticks status
+CommandGives c (AskSave cart keys ticks) named status = SaveGives c cart keys ticks named status
+CommandGives c (AskResume state cart keys ticks keep) named status = ResumeGives c state cart keys ticks keep named status
 
 -- when each answer comes, and of which file it speaks: Usage exactly where the words ask for nothing
 pub data Gives {S : Type 0} (c : Call S) (words : List (List ℕ)) (named : List ℕ) (status : Status) : Type 0 where

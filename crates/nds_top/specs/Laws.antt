@@ -8,11 +8,12 @@ use Rattle.ds_machine.specs.Booted.{machine_booted}
 use Rattle.ds_machine.specs.Reference.{Shown, reference}
 use Rattle.ds_machine.specs.States.{MachineState}
 use Rattle.asm_files.specs.Listings.{IsListing}
-use Rattle.nds_words.specs.Words.{Asked, AskRun, AskList, AskAsm, AskTrace, AskPeek, AskDemo, Asks}
+use Rattle.nds_words.specs.Words.{Asked, AskRun, AskList, AskAsm, AskTrace, AskPeek, AskDemo, AskSave, AskResume, Asks}
 use Rattle.nds_answers.specs.declared.statuses.Status.{Status}
 use Rattle.nds_answers.specs.declared.statuses.Status.TheVariants.{Done, NoMemory}
 use Rattle.nds_plays.specs.Calls.{Call, around}
 use Rattle.run_ahead.specs.Consoles.{ConsoleState}
+use Rattle.nds_plays.specs.States.{IsState}
 use Rattle.nds_answers.specs.Loads.{AreKeys, IsCart, IsFileRead, most_text}
 use Rattle.nds_top.specs.Answers.{Gives}
 use Rattle.nds_top.specs.ViewAnswers.{demo_booted}
@@ -33,6 +34,11 @@ abbrev pub CanRun : List Named → List ℕ → Option (List ℕ) → ℕ → Ty
 CanRun files cart keys ticks = (file : List ℕ) × (lines : List KeyLine) × IsCart (Some files) cart file × AreKeys (Some files) keys lines
     × ComesTo ticks (machine_booted file lines)
 
+-- the files of a run that goes on are there, short enough and accepted, the saved console's among them, and the reference run from its machine comes
+-- to the tick
+abbrev pub CanResume : List Named → List ℕ → List ℕ → Option (List ℕ) → ℕ → Type 0
+CanResume files state cart keys ticks = (start : ConsoleState) × IsState (Some files) state cart keys ticks start × ComesTo ticks start.machine
+
 -- what is asked for can be done with these files: a demo needs none
 abbrev pub CanBeDone : List Named → Asked → Type 0
 CanBeDone files (AskRun cart keys ticks keep) = CanRun files cart keys ticks
@@ -41,6 +47,8 @@ CanBeDone files (AskAsm name) = (text : List ℕ) × (image : List ℕ) × IsFil
 CanBeDone files (AskTrace cart keys ticks proc count) = CanRun files cart keys ticks
 CanBeDone files (AskPeek cart keys ticks memory place count) = CanRun files cart keys ticks
 CanBeDone files (AskDemo number ticks) = ComesTo ticks (demo_booted number)
+CanBeDone files (AskSave cart keys ticks) = CanRun files cart keys ticks
+CanBeDone files (AskResume state cart keys ticks keep) = CanResume files state cart keys ticks
 
 -- then it is done, or there was no memory
 abbrev pub IsComplete : {F S : Type 0} → (told : F → Option Told) → (shelf_faults : F → ℕ) → (tells : S → Bool) → (taken : S → List ℕ → Type 0)

@@ -13,6 +13,7 @@ use crate::demos::demo;
 use crate::listings::{assemble, list};
 use crate::peeks::peek;
 use crate::runs::run;
+use crate::states::{resume, save};
 use crate::steps::trace;
 use ds_io::{Shelf, Sink};
 use nds_answers::{Ended, Status, note};
@@ -36,10 +37,15 @@ use std::alloc::Global;
 ///   MEMORY is `main`, `wram`, `wram7`, `itcm`, `dtcm`, `palette`, `vram` or `oam`. Where the run stops nothing is written.
 /// - `demo NUMBER TICKS` runs the cartridge that is made from a number, and writes how many bytes `run` would write of it with all frames and
 ///   lists, their SHA-256, and the counts. Where the run stops nothing is written.
+/// - `save CART KEYS TICKS` runs a cartridge as `run` does, and writes the console in bytes, as it is at the tick. Where the run stops nothing is
+///   written.
+/// - `resume STATE CART KEYS TICKS KEEP` goes on from such bytes, in the file STATE, and writes what `run` does from there on. The cartridge
+///   has to be the one whose SHA-256 the bytes have, and their tick below TICKS. The count of turns in the end goes on from the bytes'; the
+///   script's lines before their tick are left out.
 ///
 /// A file's name isn't empty and doesn't begin with `-`. A cartridge has 33,554,432 bytes at most, a key script 4,194,304, a
-/// listing 134,217,728. The script is looked for once the cartridge is accepted; of both files' refusals the first is told. The shelf's files stay as
-/// they were.
+/// listing 134,217,728, a saved console 8,388,608. The script is looked for once the cartridge is accepted, and the cartridge once the saved
+/// console's file is read; of the files' refusals the first is told. The shelf's files stay as they were.
 pub fn ds_main<F: Shelf, O: Sink, N: Sink>(
     alloc: Global,
     words: &[String],
@@ -107,5 +113,12 @@ fn carry_out<'a, F: Shelf, O: Sink>(
             status: demo(alloc, number, ticks, shelf, out, seat),
             file: "",
         },
+        Command::Save { files, ticks } => save(alloc, files, ticks, shelf, out, seat),
+        Command::Resume {
+            state,
+            files,
+            ticks,
+            keep,
+        } => resume(alloc, state, files, ticks, keep, shelf, out, seat),
     }
 }

@@ -21,6 +21,12 @@
 //!   written; the seat has the console as after `run`.
 //! - `demo`: the same of four lines, on the cartridge that the number stands for: the length and the SHA-256 of what `run`
 //!   writes of it with `all`; no other answer comes but want of memory.
+//! - `save`: exactly the bytes of the console that the reference run comes to at the tick, with the SHA-256 of its cartridge, and they are
+//!   read back as that console; under LeftOut nothing was written; the seat has the console as after `run`.
+//! - `resume`: what `run` writes, of the reference run from the machine that the saved console's file stands for; its last whole frame and
+//!   last lists count where that run makes none, and the count of turns goes on from its own; the seat has the console as after as many turns
+//!   as it counts beyond that. BadState comes exactly where that file isn't accepted for the cartridge's SHA-256 and the tick, with the place
+//!   of the first field that isn't whole or breaks its rule, or of the first byte left over.
 //! - `notes` has what it had, followed by the status's line, or by a front of it where its count of faults rose; the name in the line is
 //!   that of the file which the status speaks of.
 //!
@@ -29,9 +35,12 @@
 //!
 //! `top_laws` says what follows for calls in which no count of faults rose and whose shelf tells its files. Where the words ask for
 //! something that can be done (`CanBeDone`: its files are there, short enough and accepted, and the reference run comes to the tick; a
-//! listing or an assembling needs its own file alone, a demo none), the answer is Done, or there was no memory (clause `complete`). And the
-//! same words over the same files have one status, and one list of bytes is what either call's sink was given, over any two sinks, but for
-//! want of memory (clause `one`).
+//! listing or an assembling needs its own file alone, a demo none; to go on wants the saved console's file, too), the answer is Done, or there was no
+//! memory (clause `complete`). And the same words over the same files have one status, and one list of bytes is what either call's sink was given,
+//! over any two sinks, but for want of memory (clause `one`).
+//! A run may be cut in two by a saved console (clause `resumed`): where one call saved it at a tick, and a second goes on from what that
+//! wrote, a third that runs the whole, with the same cartridge and key script by their bytes, to the same later tick has the same status
+//! and writes what is written while the run to the saved tick runs, and then what the second writes, but for the count of turns in its end.
 //!
 //! Only tested, by the rows of `nds_rows`: worked runs, refusals and listings through the whole call.
 #![tactic(auto)]
@@ -42,11 +51,12 @@ mod laws;
 mod listings;
 mod peeks;
 mod runs;
+mod states;
 mod statuses;
 mod steps;
 
 pub use calls::ds_main;
 pub use laws::top_laws;
 pub use nds_answers::{Status, number};
-pub use nds_plays::{Played, demo_cart, empty_seat, let_go, play, switch_on};
+pub use nds_plays::{Played, demo_cart, empty_seat, let_go, play, put_resumed, save, switch_on};
 pub use nds_words::{Keep, ScriptFault, read_script};

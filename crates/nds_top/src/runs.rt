@@ -41,7 +41,12 @@ pub fn run<'a, F: Shelf, O: Sink>(
 }
 
 /// Runs the console of a seat to a tick.
-fn run_seated<O: Sink>(console: &mut Console, ticks: u64, keep: Keep, out: &mut O) -> Status
+pub(crate) fn run_seated<O: Sink>(
+    console: &mut Console,
+    ticks: u64,
+    keep: Keep,
+    out: &mut O,
+) -> Status
     requires early { ticks ≤ 100000000000 }
     requires open { console.old.stopped ≡ None }
     ensures { RunsSo O.tells O.taken O.faults ticks keep console.old out.old result console.new out.new }

@@ -3,3 +3,7 @@ use Rattle.nds_top.proofs.calls.carry_out.Goals as goal
 -- src/calls.rt:66:1
 pub returns-in-Trace-clause-answer : goal.returns-in-Trace-clause-answer
 returns-in-Trace-clause-answer g c = rw (c.in-Trace.is, c.requires.empty) c.trace.ensures.answer
+
+-- src/calls.rt:66:1
+pub returns-in-Resume-clause-answer : goal.returns-in-Resume-clause-answer
+returns-in-Resume-clause-answer g c = rw c.in-Resume.is c.resume.ensures.answer

@@ -161,7 +161,7 @@ fn play_over<O: Sink>(console: &mut Console, until: u64, keep: Keep, out: &mut O
 }
 
 /// Whether a console can be played on. (A turn without a tick below its limit changes nothing, and tells whether the console has stopped.)
-fn goes_on(console: &mut Console) -> bool
+pub fn goes_on(console: &mut Console) -> bool
     ensures { IsTrue result → console.new.stopped ≡ None }
 {
     match console.turn(Tick(0)) {

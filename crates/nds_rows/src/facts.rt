@@ -29,6 +29,8 @@ pub enum Quantity {
     /// Whether the output is the one that was kept: 0 if not, 1 if it is a front of it that isn't all, 2 if it is all of it, 3 if only its last eight
     /// bytes, the count of turns, differ.
     Kept,
+    /// Whether the output is the one that was kept, but for its last eight bytes at most, 0 or 1.
+    Near,
     /// Words of a memory, from a place on, in the output and in the console.
     Words(Memory, usize),
     /// The tick of a frame, by its number from 1, where the output has it.
@@ -101,7 +103,7 @@ enum Form {
 }
 
 /// The words that are looked at.
-const FORMS: [(&str, Form); 31] = [
+const FORMS: [(&str, Form); 32] = [
     ("status", Form::Numbers(Quantity::Status, Radix::Decimal)),
     ("length", Form::Numbers(Quantity::Length, Radix::Decimal)),
     ("end", Form::Numbers(Quantity::End, Radix::Decimal)),
@@ -113,6 +115,7 @@ const FORMS: [(&str, Form); 31] = [
     ("front", Form::Word(Quantity::Kept, 1)),
     ("same", Form::Word(Quantity::Kept, 2)),
     ("alike", Form::Word(Quantity::Kept, 3)),
+    ("near", Form::Word(Quantity::Near, 1)),
     ("at", Form::At),
     ("upper", Form::Pixels(false)),
     ("lower", Form::Pixels(true)),

@@ -15,6 +15,15 @@ pub enum Act {
     Keep,
     /// The output begins with so many records of frames, and those that are looked at from now on are behind them.
     Past(usize),
+    /// The output is kept as the saved state, for later calls to go on from.
+    Saved,
+    /// A file of the shelf is a state of the cartridge, which is saved again as the same bytes.
+    Again(String),
+    /// So many changes of the saved state by chance, from a seed on, are each refused, or taken and saved again as the same bytes.
+    Tries {
+        count: u64,
+        seed: u64,
+    },
     /// The console takes a turn with a limit. What it answers, and its limit after it, are these numbers.
     Turn {
         until: u64,
@@ -112,11 +121,21 @@ fn frame(line: &mut Cursor<'_>) -> Act {
     Act::Frame { until, turns }
 }
 
+/// Changes by chance.
+fn tries(line: &mut Cursor<'_>) -> Act {
+    let count = line.number();
+    let seed = line.number();
+    Act::Tries { count, seed }
+}
+
 /// What a line that begins with this word does; nothing where the word isn't such a line's.
 fn act_line(word: &str, line: &mut Cursor<'_>) -> Option<Act> {
     let act = match word {
         "keep" => Act::Keep,
         "past" => Act::Past(line.length()),
+        "saved" => Act::Saved,
+        "again" => Act::Again(line.name()),
+        "tries" => tries(line),
         "turn" => turn(line),
         "frame" => frame(line),
         "play" => Act::Play {

@@ -9,7 +9,8 @@
 //! `files` reads a file into what its lines say. A line goes through `tokens` (its words and texts), `cursors` (numbers and bytes), and
 //! `lines` with its kinds: `setups` (what a call goes over) and `facts` (what is seen). `parts` finds the lines of tables, rows and parts of
 //! rows, and `scenes` puts together what a call goes over; `lists` adds to lists. `tables` goes over the lines of a file, and `rows` over
-//! those of a row: `calls` makes its call, `consoles` looks at the console that the call left. `answers` is what it came to, `views` looks
+//! those of a row: `calls` makes its call, `consoles` looks at the console that the call left. `states` takes the bytes of states,
+//! changed by `chances`, and saves them again. `answers` is what it came to, `views` looks
 //! at that, `checks` and `differences` hold it beside the fact, and `players` tells of it. A further word of the language is a variant and
 //! a line in its kind, and what plays it.
 //!
@@ -25,6 +26,7 @@
 
 mod answers;
 mod calls;
+mod chances;
 mod checks;
 mod consoles;
 mod cursors;
@@ -39,6 +41,7 @@ mod players;
 mod rows;
 mod scenes;
 mod setups;
+mod states;
 mod tables;
 mod tokens;
 mod views;

@@ -3,6 +3,7 @@
 use crate::lines::{Act, Line, Said};
 use crate::players::{Standing, Tally};
 use crate::scenes::Scene;
+use crate::setups::Setup;
 use std::alloc::{AllocError, Global};
 
 /// A line before which something ends.
@@ -45,12 +46,25 @@ pub fn count(tally: Tally, row: Standing) -> Tally {
     }
 }
 
+/// Whether something is done with a console.
+fn is_of_console(act: &Act) -> bool {
+    matches!(
+        act,
+        Act::Turn {
+            until: _,
+            wanted: _
+        } | Act::Frame { until: _, turns: _ }
+            | Act::Play { until: _ }
+            | Act::Climb { until: _ }
+    )
+}
+
 /// Whether a part of a row makes a call. It doesn't where the first that it does is done with a console, which then is a new one.
 pub fn has_call(lines: &[Said]) -> bool {
     for said in lines {
         match &said.line {
             Line::Is(_) => return true,
-            Line::Act(act) => return matches!(act, Act::Keep | Act::Past(_)),
+            Line::Act(act) => return !is_of_console(act),
             _ => {}
         }
     }
@@ -67,11 +81,18 @@ pub fn has_facts(lines: &[Said]) -> bool {
     false
 }
 
-/// Changes what lines say of what calls go over.
-pub fn change_all(alloc: Global, scene: &mut Scene, lines: &[Said]) -> Result<(), AllocError> {
+/// Changes what lines say of what calls go over, by the saved state that was kept.
+pub fn change_all(
+    alloc: Global,
+    scene: &mut Scene,
+    state: &[u8],
+    lines: &[Said],
+) -> Result<(), AllocError> {
     for said in lines {
-        if let Line::Setup(setup) = &said.line {
-            scene.change(alloc, setup)?;
+        match &said.line {
+            Line::Setup(Setup::State(name)) => scene.put_state(alloc, name, state)?,
+            Line::Setup(setup) => scene.change(alloc, setup)?,
+            _ => {}
         }
     }
     Ok(())

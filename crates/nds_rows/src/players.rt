@@ -45,6 +45,8 @@ pub struct Player {
     pub standing: Standing,
     /// The output that was kept.
     pub kept: Vec<u8>,
+    /// The state that was saved last.
+    pub state: Vec<u8>,
 }
 
 /// How a row stands before its first fact.
@@ -71,6 +73,7 @@ impl Player {
             held: 0,
             standing: BEGUN,
             kept: Vec::new(alloc),
+            state: Vec::new(alloc),
         })
     }
 
@@ -105,6 +108,12 @@ impl Player {
     /// Keeps the output.
     pub fn keep(&mut self, came: &Came) -> Result<Option<String>, BadLine> {
         self.kept = came.out.clone()?;
+        Ok(None)
+    }
+
+    /// Keeps the output as the saved state.
+    pub fn save(&mut self, came: &Came) -> Result<Option<String>, BadLine> {
+        self.state = came.out.clone()?;
         Ok(None)
     }
 

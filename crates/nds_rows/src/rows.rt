@@ -12,6 +12,7 @@ use crate::lines::{Act, Line, Said};
 use crate::parts::{begins_part, change_all, has_call, has_facts};
 use crate::players::{BEGUN, Player, go_past};
 use crate::scenes::Scene;
+use crate::states::{Taken, take_state, wrong_tries};
 use nds_top::{Keep, empty_seat, let_go};
 use run_ahead::Console;
 use std::alloc::{AllocError, Global};
@@ -61,7 +62,8 @@ fn act_on(
     came: &mut Came,
 ) -> Result<Option<String>, BadLine> {
     match act {
-        Act::Keep | Act::Past(_) => Ok(None),
+        Act::Keep | Act::Past(_) | Act::Saved | Act::Again(_) | Act::Tries { count: _, seed: _ } =>
+            Ok(None),
         Act::Turn { until, wanted } => Ok(take_turn(alloc, console, *until, wanted.as_slice())?),
         Act::Frame { until, turns } => Ok(take_frame(alloc, console, *until, *turns)?),
         Act::Play { until } => {
@@ -105,9 +107,33 @@ fn come(
     Ok(Came::new(alloc))
 }
 
+/// Takes a state and saves it again, and says so where it isn't taken, or isn't the same bytes.
+fn take_again(alloc: Global, scene: &Scene, name: &String) -> Result<Option<String>, AllocError> {
+    let came = take_state(alloc, scene, scene.bytes(name))?;
+    let seen = match came {
+        Taken::Refused => 0,
+        Taken::Same => 1,
+        Taken::Other => 2,
+    };
+    numbers_differ(alloc, &[seen], &[Some(1)])
+}
+
+/// Changes the saved state by chance, and says how many changes are taken and saved again as other bytes, and which is the first.
+fn try_changes(
+    player: &Player,
+    scene: &Scene,
+    count: u64,
+    seed: u64,
+) -> Result<Option<String>, AllocError> {
+    let state = player.state.as_slice();
+    let seen = wrong_tries(player.alloc, scene, state, count, seed)?;
+    numbers_differ(player.alloc, &seen, &[Some(0), Some(0)])
+}
+
 /// Does what a line says.
 fn do_act(
     player: &mut Player,
+    scene: &Scene,
     act: &Act,
     came: &mut Came,
     seat: &mut Option<Console>,
@@ -115,6 +141,9 @@ fn do_act(
     match act {
         Act::Keep => player.keep(came),
         Act::Past(count) => Ok(go_past(player.alloc, *count, came)?),
+        Act::Saved => player.save(came),
+        Act::Again(name) => Ok(take_again(player.alloc, scene, name)?),
+        Act::Tries { count, seed } => Ok(try_changes(player, scene, *count, *seed)?),
         _ => act_seated(player.alloc, act, came, seat),
     }
 }
@@ -122,6 +151,7 @@ fn do_act(
 /// Plays a line of a row whose call was made.
 fn play_line(
     player: &mut Player,
+    scene: &Scene,
     said: &Said,
     came: &mut Came,
     seat: &mut Option<Console>,
@@ -133,7 +163,7 @@ fn play_line(
             player.judge(said.number, Ok(differs))
         }
         Line::Act(act) => {
-            let differs = do_act(player, act, came, seat);
+            let differs = do_act(player, scene, act, came, seat);
             player.judge(said.number, differs)
         }
         _ => Ok(()),
@@ -152,11 +182,11 @@ fn play_seated(
 {
     let mut came = come(player.alloc, scene, has_call(lines), seat)?;
     for said in lines {
-        play_line(player, said, &mut came, seat)?;
+        play_line(player, scene, said, &mut came, seat)?;
     }
     for said in facts {
         if let Line::Is(_) = &said.line {
-            play_line(player, said, &mut came, seat)?;
+            play_line(player, scene, said, &mut came, seat)?;
         }
     }
     Ok(())
@@ -182,7 +212,7 @@ fn play_next(
     lines: &[Said],
     facts: &[Said],
 ) -> Result<(), AllocError> {
-    change_all(player.alloc, scene, lines)?;
+    change_all(player.alloc, scene, player.state.as_slice(), lines)?;
     if has_facts(lines) || has_facts(facts) {
         play_part(player, scene, lines, facts)?;
     }
@@ -194,7 +224,7 @@ pub fn play_row(player: &mut Player, head: &[Said], lines: &[Said]) -> Result<()
     player.standing = BEGUN;
     player.tell_all_bad(lines)?;
     let mut scene = Scene::new(player.alloc)?;
-    change_all(player.alloc, &mut scene, head)?;
+    change_all(player.alloc, &mut scene, player.state.as_slice(), head)?;
     let mut from = 0;
     for at in 1..lines.len() {
         if begins_part(lines, at) {

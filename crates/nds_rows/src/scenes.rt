@@ -94,6 +94,16 @@ fn set_all(file: &mut Vec<u8>, at: usize, values: &[u32]) {
     }
 }
 
+/// Puts bytes into a file, one after the other, as far as the file goes.
+fn set_bytes(file: &mut Vec<u8>, at: usize, bytes: &[u8]) {
+    for (i, byte) in bytes.iter().enumerate() {
+        let at = at.saturating_add(i);
+        if at < file.len() {
+            file[at] = *byte;
+        }
+    }
+}
+
 /// A length that a header can tell.
 fn told(length: usize) -> u32 {
     (length as u64 % 0x1_0000_0000) as u32
@@ -211,6 +221,58 @@ impl Scene {
         push(&mut self.files, Entry { name, bytes })
     }
 
+    /// Puts the saved state on the shelf, in place of what lies there under its name.
+    pub fn put_state(
+        &mut self,
+        alloc: Global,
+        name: &String,
+        state: &[u8],
+    ) -> Result<(), AllocError> {
+        let bytes = Vec::from_slice(alloc, state)?;
+        match self.file(name) {
+            Some(entry) => {
+                entry.bytes = bytes;
+                Ok(())
+            }
+            None => self.put_file(name.clone()?, bytes),
+        }
+    }
+
+    /// The first file of a name on the shelf, beside the cartridge.
+    fn file(&mut self, name: &String) -> Option<&mut Entry> {
+        for entry in &mut self.files {
+            if entry.name == *name {
+                return Some(entry);
+            }
+        }
+        None
+    }
+
+    /// The bytes of the first file of a name on the shelf, beside the cartridge; none where there is none.
+    pub fn bytes(&self, name: &String) -> &[u8] {
+        for entry in &self.files {
+            if entry.name == *name {
+                return entry.bytes.as_slice();
+            }
+        }
+        &[]
+    }
+
+    /// Puts bytes into a file of the shelf.
+    fn set_file(&mut self, name: &String, at: usize, bytes: &[u8]) {
+        if let Some(entry) = self.file(name) {
+            set_bytes(&mut entry.bytes, at, bytes);
+        }
+    }
+
+    /// Sets how many bytes a file of the shelf has.
+    fn cut_file(&mut self, name: &String, size: usize) -> Result<(), AllocError> {
+        match self.file(name) {
+            Some(entry) => entry.bytes.resize(size, 0),
+            None => Ok(()),
+        }
+    }
+
     /// Puts the cartridge as it stands on the shelf.
     fn shelve(&mut self, alloc: Global, name: &String) -> Result<(), AllocError> {
         let bytes = self.cart(alloc)?;
@@ -231,6 +293,7 @@ impl Scene {
             Setup::Cart(name) => self.call_cart(name),
             Setup::Shelve(name) => self.shelve(alloc, name),
             Setup::File { name, bytes } => self.put_file(name.clone()?, bytes.clone()?),
+            Setup::Cut { name, size } => self.cut_file(name, *size),
             Setup::Call(words) => self.ask(words),
             _ => {
                 self.set_number(setup);
@@ -239,7 +302,7 @@ impl Scene {
         }
     }
 
-    /// Changes what a line of one number says.
+    /// Changes what a line of numbers says.
     fn set_number(&mut self, setup: &Setup) {
         match setup {
             Setup::Put { proc, number, word } => {
@@ -249,6 +312,7 @@ impl Scene {
                     *word,
                 );
             }
+            Setup::Changed { name, at, bytes } => self.set_file(name, *at, bytes.as_slice()),
             Setup::Place { proc, place } => self.place(*proc, *place),
             Setup::Entry { proc, entry } => self.image(*proc).entry = *entry,
             Setup::Size(size) => self.size = Some(*size),

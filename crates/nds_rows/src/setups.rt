@@ -65,6 +65,19 @@ pub enum Setup {
         name: String,
         bytes: Vec<u8>,
     },
+    /// The saved state lies on the shelf, under this name.
+    State(String),
+    /// These bytes stand in a file of the shelf from there on.
+    Changed {
+        name: String,
+        at: usize,
+        bytes: Vec<u8>,
+    },
+    /// A file of the shelf has so many bytes, zeros behind what it has.
+    Cut {
+        name: String,
+        size: usize,
+    },
     /// A call fails, by its number from 1.
     Fails {
         part: Part,
@@ -164,6 +177,21 @@ fn file(line: &mut Cursor<'_>) -> Setup {
     Setup::File { name, bytes }
 }
 
+/// Bytes that stand in a file of the shelf.
+fn changed(line: &mut Cursor<'_>) -> Setup {
+    let name = line.name();
+    let at = line.length();
+    let bytes = line.bytes();
+    Setup::Changed { name, at, bytes }
+}
+
+/// How many bytes a file of the shelf has.
+fn cut(line: &mut Cursor<'_>) -> Setup {
+    let name = line.name();
+    let size = line.length();
+    Setup::Cut { name, size }
+}
+
 /// A call that fails.
 fn fails(line: &mut Cursor<'_>) -> Setup {
     let part = part_of(line);
@@ -196,6 +224,9 @@ fn call_line(word: &str, line: &mut Cursor<'_>) -> Option<Setup> {
     let setup = match word {
         "shelve" => Setup::Shelve(line.name()),
         "file" => file(line),
+        "state" => Setup::State(line.name()),
+        "changed" => changed(line),
+        "cut" => cut(line),
         "fails" => fails(line),
         "room" => Setup::Room(line.length()),
         "slow" => Setup::Slow(line.length()),

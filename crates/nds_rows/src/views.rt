@@ -206,6 +206,7 @@ fn number_of(came: &Came, kept: &[u8], of: Quantity) -> Option<u64> {
         Quantity::Length => Some(came.out.len() as u64),
         Quantity::Told => Some(u64::from(came.is_told)),
         Quantity::Kept => Some(kept_of(came, kept)),
+        Quantity::Near => Some(u64::from(kept_of(came, kept) >= 2)),
         _ => None,
     }
 }
@@ -226,7 +227,7 @@ pub fn add_answer(
     of: Quantity,
 ) -> Result<bool, AllocError> {
     match of {
-        Quantity::Status | Quantity::Length | Quantity::Told | Quantity::Kept => {
+        Quantity::Status | Quantity::Length | Quantity::Told | Quantity::Kept | Quantity::Near => {
             add_number(views, came, kept, of)?;
         }
         Quantity::Frame(number) => add_frame_tick(views, came.out.as_slice(), number)?,

@@ -1,9 +1,10 @@
-"""nds-diff: tells where two outputs of `nds run` differ: frames, lists, variables, memories, registers, counts, stops.
+"""nds-diff: tells where two outputs of `nds run` differ: frames, lists, variables, memories, registers, counts, stops; or two saved states.
 
     tools/nds-diff A B [--only PART].. [--elf9 F] [--elf7 F] [--skip-code] [--frame 60|1-10] [--png DIR [--most N]]
 
-  A, B         what two runs wrote; one of them may be `-`, standard input
-  --only P     that part alone: frames, lists, variables, memory, registers or counts; may be given several times
+  A, B         what two runs wrote; one of them may be `-`, standard input. Or two saved states, which `nds save` writes
+  --only P     that part alone: frames, lists, variables, memory, registers or counts; of states variables, memory, registers or fields; may be
+               given several times
   --elf9 F, --elf7 F   the programs' ELF files, for their variables and symbols
   --elf9-b F, --elf7-b F   those of B, where it is another build: variables are then found by name in each
   --skip-code  leaves out the bytes where these files have code, the header's copy, and words that point into code in both outputs: those
@@ -15,7 +16,8 @@
 
 Variables that differ come by name, with their values or the first word that differs. For each other part it tells how much differs and the
 first three places: of a frame the screen, how many pixels, the first one's (x, y) and both colours; of a memory the address, the symbol and
-both words, without the variables and the pointers into code. All registers and counts that differ are told, and a stop by its name.
+both words, without the variables and the pointers into code. All registers and counts that differ are told, and a stop by its name. Of states
+the fields come by name, as ports of GBATEK's names, with both values and both offsets; DTCM is where each state has it.
 
 Where the code in an output's memory isn't its ELF file's, standard error says so: then its variables lie elsewhere.
 
@@ -31,11 +33,15 @@ from nds_tools.memory import Map
 from nds_tools.records import SCREEN, End, Frame, Lists, Memory, Record, Stop, records_of
 from nds_tools.show_command import map_of
 from nds_tools.spans import Wanted, wanted
+from nds_tools.state_banks import banks_of
+from nds_tools.state_show import compare_fields, state_of
+from nds_tools.states import State, is_state
 from nds_tools.words import FAILED, GOOD, Untold, Words
 
 TOOL = "nds-diff"
 USAGE = "tools/nds-diff A B [--only PART].. [--elf9 F] [--elf7 F] [--elf9-b F] [--elf7-b F] [--skip-code] [--frame F] [--png DIR [--most N]] [--dtcm A]"
 PARTS = ("frames", "lists", "variables", "memory", "registers", "counts")
+PARTS_OF_STATES = ("variables", "memory", "registers", "fields")
 PICTURES = 20
 Pictured = Union[Frame, Lists]
 
@@ -199,11 +205,40 @@ def compare_tails(a: Tail, b: Tail, only: List[str], maps: Tuple[Map, Map], skip
     return parts
 
 
+def compare_states(a: State, b: State, only: List[str], maps: Tuple[Map, Map], skips_code: bool) -> List[Part]:
+    """Compares two saved states."""
+    one, two = (Side(state.memory, state.map(known, banks_of(state))) for state, known in zip((a, b), maps))
+    sides = one, two
+    tell_other_programs(sides)
+    parts = [compare_variables(*sides, skips_code)] if "variables" in only else []
+    parts += compare_memory(*sides, skips_code) if "memory" in only else []
+    parts += compare_registers(sides) if "registers" in only else []
+    return parts + (compare_fields(a, b) if "fields" in only else [])
+
+
+def is_of_states(given: argparse.Namespace) -> bool:
+    """Whether both are saved states; one alone can't be compared with an output."""
+    one, two = is_state(given.a), is_state(given.b)
+    if one != two:
+        raise Untold(f"{given.a if one else given.b} is a saved state, and {given.b if one else given.a} is none")
+    if one and (given.frame or given.png):
+        raise Untold("--frame and --png are for outputs; of states frames are compared pixel by pixel")
+    return one
+
+
+def parts_of(given: argparse.Namespace, known: Tuple[str, ...], what: str) -> List[str]:
+    """Returns the parts that are asked for, of those that are there."""
+    wrong = [it for it in given.only or [] if it not in known]
+    if wrong:
+        raise Untold(f"--only {wrong[0]}: {what} {', '.join(known)}")
+    return given.only or [it for it in known if it != "variables" or given.elf9 or given.elf7]
+
+
 def read_words() -> argparse.Namespace:
     words = Words(TOOL, USAGE, __doc__ or "")
     words.add_argument("a")
     words.add_argument("b")
-    words.add_argument("--only", action="append", choices=PARTS)
+    words.add_argument("--only", action="append", choices=(*PARTS, "fields"))
     for name in ("--elf9", "--elf7", "--elf9-b", "--elf7-b", "--dtcm", "--frame", "--png"):
         words.add_argument(name)
     words.add_argument("--most", type=int, default=PICTURES)
@@ -220,13 +255,19 @@ def read_words() -> argparse.Namespace:
         raise Untold("one output alone can come from a pipe")
     if given.most < 1:
         raise Untold("--most takes a number from 1")
-    given.only = given.only or [it for it in PARTS if it != "variables" or has_elf]
     return given
 
 
 def main() -> int:
     given = read_words()
     maps = (map_of(given.elf9, given.elf7, given.dtcm), map_of(given.elf9_b or given.elf9, given.elf7_b or given.elf7, given.dtcm))
+    if is_of_states(given):
+        given.only = parts_of(given, PARTS_OF_STATES, "states have")
+        states = state_of(given.a), state_of(given.b)
+        lines = [line for it in compare_states(*states, given.only, maps, given.skip_code) for line in it.said()]
+        print("\n".join(lines) or f"equal: {', '.join(given.only)}")
+        return FAILED if lines else GOOD
+    given.only = parts_of(given, PARTS, "outputs have")
     tails, frames = (Tail(), Tail()), wanted(given.frame)
     one, two = (pictured(records_of(name), tail, frames) for name, tail in zip((given.a, given.b), tails))
     folder = given.png if "frames" in given.only else None

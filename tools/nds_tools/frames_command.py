@@ -2,7 +2,7 @@
 
     tools/nds-frames OUTPUT [--frame 60|1-10] [--every N] [--hash | --png FOLDER | --apng FILE] [--upper | --lower] [--scale K]
 
-  OUTPUT        what `nds run` wrote; `-` is standard input
+  OUTPUT        what `nds run` wrote; `-` is standard input. Or a saved state, of which the last whole frame and the last lists are taken
   --frame F     the frames of these numbers alone: one, or a first and a last. A frame's number tells which it is of the run, from 1
   --every N     of these each Nth, from the first on
   --hash        a line a frame: number, tick, and the SHA-256 of its pixels: a golden file that git shows well
@@ -26,6 +26,8 @@ from nds_tools import png
 from nds_tools.apng import Animation, animation
 from nds_tools.records import SCREEN, End, Frame, Lists, Memory, Record, Stop, records_of
 from nds_tools.spans import wanted
+from nds_tools.state_show import records_in, state_of
+from nds_tools.states import is_state
 from nds_tools.words import GOOD, Refused, Untold, Words
 
 TOOL = "nds-frames"
@@ -67,7 +69,7 @@ def show(record: Record, given: argparse.Namespace, movie: Optional[Animation]) 
 def show_all(given: argparse.Namespace, movie: Optional[Animation]) -> Tuple[int, str]:
     """Shows the records that are asked for; returns how many frames there were, and how the run stopped, if it did."""
     chosen, frames, stop = wanted(given.frame, given.every), 0, ""
-    for record in records_of(given.output):
+    for record in records_in(state_of(given.output)) if is_state(given.output) else records_of(given.output):
         if isinstance(record, (Frame, Lists)) and not chosen.has(record.number):
             continue
         frames += isinstance(record, Frame)

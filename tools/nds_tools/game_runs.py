@@ -7,7 +7,8 @@ from typing import Dict, List, Optional, Tuple
 
 from nds_tools import names
 from nds_tools.memory import Map, Place, shown, text_in
-from nds_tools.program import DONE, LEFT_OUT, finished, said, output_of, start, words_of_run
+from nds_tools.game_states import explained as explained_state
+from nds_tools.program import BAD_STATE, DONE, LEFT_OUT, finished, said, output_of, start
 from nds_tools.records import End, Frame, Lists, Memory, Reader, Stop
 from nds_tools.game_tests import Asked, Results, Shot, Test, as_text, sum_of
 from nds_tools.scripts import explained
@@ -41,7 +42,7 @@ class Playing:
     most_held: int = MOST_HELD
 
     def words(self, ticks: int, keep: str) -> Tuple[str, ...]:
-        return words_of_run(self.test.cart, self.keys, ticks, keep)
+        return self.test.words(self.keys, ticks, keep)
 
 
 class Summed(io.RawIOBase):
@@ -109,6 +110,8 @@ def seen(playing: Playing) -> Seen:
         raise Untold(f"the run took more than {playing.timeout:g} seconds")
     if why and reader.at:
         raise why
+    if run.returncode == BAD_STATE and test.start:
+        raise Untold(explained_state(said(note, run.returncode), test.start.state, test.cart, test.ticks))
     if run.returncode not in (DONE, LEFT_OUT):
         raise Untold(explained(said(note, run.returncode), playing.keys if test.held else test.keys))
     if why:

@@ -11,7 +11,9 @@ from typing import Dict, Iterable, List, Optional, Set, Tuple
 
 from nds_tools import names, scripts
 from nds_tools.elf import Elf
+from nds_tools.game_states import Start, merged, start_of, text_of
 from nds_tools.memory import Map, Place
+from nds_tools.program import words_of_resume, words_of_run
 from nds_tools.records import SCREEN, Frame
 from nds_tools.scripts import Held
 from nds_tools.spans import span
@@ -21,7 +23,7 @@ ENDING, KEPT = ".test", ".expected"
 MOST_TICKS = 100_000_000_000
 HEAD = "# What nds-test compares; nds-test --update writes it.\n"
 SCREENS = {"both": slice(None), "upper": slice(SCREEN), "lower": slice(SCREEN, None)}
-ONCE = {"cart": 1, "elf9": 1, "elf7": 1, "keys": 1, "dtcm": 1, "frames": 1, "ticks": 1, "expect": None}
+ONCE = {"cart": 1, "elf9": 1, "elf7": 1, "keys": 1, "dtcm": 1, "frames": 1, "ticks": 1, "from": None, "expect": None}
 OFTEN = ("keep", *scripts.BY_FRAME)
 KINDS_KEPT = ("frame", "picture", "peek", "decimal", "text", "vertices", "output")
 
@@ -79,6 +81,7 @@ class Test:
     has_vertices: bool = False
     has_output: bool = False
     stop: Optional[Tuple[str, int]] = None
+    start: Optional[Start] = None
 
     @property
     def stem(self) -> str:
@@ -105,7 +108,7 @@ class Test:
     @property
     def last_frame(self) -> int:
         """Returns the number of the last frame that is whole below the tick; 0 where none is."""
-        return max((self.ticks - 1 - names.FIRST_FRAME) // names.FRAME_TICKS + 1, 0)
+        return names.frames_below(self.ticks)
 
     @property
     def keep(self) -> str:
@@ -128,8 +131,26 @@ class Test:
         return found
 
     def script(self) -> "AbstractContextManager[str]":
-        """Gives the name of the key script's file as the program takes it, as long as it is used."""
-        return scripts.as_file(scripts.script_of(self.held)) if self.held else scripts.of_file(self.keys)
+        """Gives the name of the key script's file as the program takes it, as long as it is used. Where other keys lead to the state from which the
+        test begins, the script has these first, so that a run from boot comes to the same."""
+        own = scripts.script_of(self.held) if self.held else None
+        if self.start and self.start.keys:
+            return scripts.as_file(merged(text_of(self.start.keys), text_of(self.keys) if own is None else own, self.start.tick))
+        return scripts.of_file(self.keys) if own is None else scripts.as_file(own)
+
+    def words(self, script: str, ticks: int, keep: str) -> Tuple[str, ...]:
+        """Returns the program's words of a run of the test to a tick."""
+        if self.start:
+            return words_of_resume(self.start.state, self.cart, script, ticks, keep)
+        return words_of_run(self.cart, script, ticks, keep)
+
+    def check_start(self, tick: int) -> None:
+        """Refuses a test that asks for what lies before the tick at which it begins."""
+        if self.ticks <= tick:
+            raise Untold(f"{self.path}: it begins at tick {tick}, from its state, and runs to tick {self.ticks}")
+        early, begun = min(self.frames, default=0), names.frames_below(tick)
+        if self.frames and early <= begun:
+            raise Untold(f"{self.path}: frame {early} is whole before tick {tick}, at which its state was saved; it has frames from {begun + 1} on")
 
 
 class Lines:
@@ -173,6 +194,9 @@ class Lines:
 
     def take_file(self, first: str, name: str) -> None:
         setattr(self.test, first, name if (first, name) == ("keys", "none") else self.file(name))
+
+    def take_from(self, *words: str) -> None:
+        self.test.start = start_of(list(words), self.folder)
 
     def take_dtcm(self, text: str) -> None:
         self.test.dtcm = number(text)
@@ -228,6 +252,9 @@ class Lines:
             raise Untold(f"{path}: keys are told by `keys {test.keys}` or by `press` and `hold`, and not by both")
         if not 1 <= test.ticks <= MOST_TICKS:
             raise Untold(f"{path}: it runs to tick {test.ticks}, and a run goes to 1 to {MOST_TICKS}")
+        if test.start and test.start.is_made:
+            self.check_keys(test.start)
+            test.check_start(test.start.tick)
         late = max(test.frames, default=0)
         if late > test.last_frame:
             raise Untold(f"{path}: frame {late} isn't whole by tick {test.ticks}; `frames {late}` runs that far")
@@ -235,6 +262,13 @@ class Lines:
             raise Untold(f"{path}: a run that stops writes no memories, so `keep {test.places[0].kind}` and `expect stop` don't go together")
         if not (test.shots or test.places or test.has_vertices or test.has_output or test.stop):
             raise Untold(f"{path}: it keeps nothing, so it would pass whatever the game does: add a line `keep ..`")
+
+
+    def check_keys(self, start: Start) -> None:
+        """Refuses keys of the test's own before its state, where other keys lead there."""
+        early = min((it.first for it in self.test.held), default=0)
+        if start.keys and early and names.FRAME_TICKS * (early - 1) < start.tick:
+            raise Untold(f"{self.test.path}: keys are held in frame {early}, before the state's tick {start.tick}, to which those of {start.keys} lead")
 
 
 def near(word: str, known: Iterable[str]) -> str:
@@ -257,7 +291,11 @@ def test_of(path: str, **words: Optional[str]) -> Optional[Test]:
     for name, word in words.items():
         if word and word != scripts.NONE:
             raise Untold(f"--{name} {word}: {path} is a test, which tells that itself")
-    return read_test(path, path)
+    test = read_test(path, path)
+    if test.start and not test.start.is_made:
+        state = test.start.state
+        raise Untold(f"{path} begins from {state} and doesn't tell how that is made, so it can't be run from boot; nds-show --state shows the state")
+    return test
 
 
 def read_test(path: str, name: str) -> Test:

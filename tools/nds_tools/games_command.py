@@ -1,11 +1,13 @@
 """nds-test: runs a game's tests: small texts that name a cartridge, keys, how far to run, and which results are kept.
 
-    tools/nds-test FOLDER|FILE.. [--update [NAME]] [--filter S] [--last-failed] [-x] [--all] [--list] [--durations [N]]
+    tools/nds-test FOLDER|FILE.. [--update [NAME]] [--remake] [--filter S] [--last-failed] [-x] [--all] [--list] [--durations [N]]
                    [--jobs N] [--timeout S] [--junit F] [--out DIR] [--nds PATH]
 
   FOLDER|FILE      tests: files that end in .test, and the folders in which they are looked for; `-` reads such names from standard input
   --update [NAME]  keeps what the runs give now as right, of all tests or of the one NAME; a run that stops is kept only where the test
-                   expects it
+                   expects it. States from which tests begin are made anew first
+  --remake         makes the states from which tests begin anew, and keeps no results: after each build of the cartridge, as a state of another
+                   build is refused
   --filter S       the tests alone whose name has S
   --last-failed    those alone that weren't good when they ran last; all, where there is none of these
   -x               begins no further test after the first that isn't good
@@ -23,6 +25,8 @@ A test's lines, with files named from the test's folder, and # for comments:
     cart GAME.nds            elf9 F, elf7 F    keys F, a key script, keys by frame or a recording of DeSmuME
     press A+UP 60-65 90      hold LEFT 10-80   keys that are held in these frames, any number of lines in any order
     frames 120               run until that many frames are whole; or: ticks N
+    from F.state frames 60   begins from a saved state, which is made by a run of 60 frames with the test's keys; or: ticks N; with keys F behind,
+                             by the keys of F. Frames and ticks are counted from boot all the same
     keep frame 60 100-120    the sums of these frames, numbered from 1; `upper` or `lower` behind them keeps that screen alone
     keep picture 60          as well, and the picture itself, as a PNG beside the test
     keep peek PLACE..        words of memory, each place by symbol or as [9:|7:]ADDRESS, @MEMORY+BYTES, with :WORDS
@@ -35,7 +39,7 @@ A test's lines, with files named from the test's folder, and # for comments:
 
 Results are kept in NAME.expected beside NAME.test, pictures in NAME.frame-0060.png. A line a test tells: PASS; FAIL and what changed, values
 before frames, and below it which processor is stuck, if one is; STOPPED, where a run stops that isn't expected to; NEW, where a result or a
-picture isn't kept yet; ERROR, where the test can't be judged; KEPT, what --update wrote. STALE names a kept file that no test asks for.
+picture isn't kept yet, or a state isn't there or is another build's; ERROR, where the test can't be judged; KEPT, what --update wrote. STALE names a kept file that no test asks for.
 
 Ends with 0 where each test passed or was kept; with 1 where one failed or stopped; otherwise with 2 where one is new or can't be judged."""
 import argparse
@@ -50,13 +54,14 @@ from xml.sax.saxutils import escape, quoteattr
 from nds_tools import golden, png
 from nds_tools.changes import Changes, changes, short
 from nds_tools.game_runs import MOST_HELD, Ran, ran
+from nds_tools.game_states import Maker, lacking
 from nds_tools.game_tests import Results, Shot, Test, found_in, near, read_kept, read_test, stale, sum_of, write_kept
 from nds_tools.last_failed import LastFailed
 from nds_tools.program import ready
 from nds_tools.words import FAILED, GOOD, UNTOLD, Untold, Words, count_from
 
 TOOL = "nds-test"
-USAGE = """tools/nds-test FOLDER|FILE.. [--update [NAME]] [--filter S] [--last-failed] [-x] [--all] [--list] [--durations [N]]
+USAGE = """tools/nds-test FOLDER|FILE.. [--update [NAME]] [--remake] [--filter S] [--last-failed] [-x] [--all] [--list] [--durations [N]]
                       [--jobs N] [--timeout S] [--junit F] [--out DIR] [--nds PATH]"""
 PASS, FAIL, STOPPED, NEW, ERROR, KEPT = "PASS", "FAIL", "STOPPED", "NEW", "ERROR", "KEPT"
 STATUS = {PASS: GOOD, KEPT: GOOD, FAIL: FAILED, STOPPED: FAILED, NEW: UNTOLD, ERROR: UNTOLD}
@@ -100,6 +105,7 @@ class How:
     out: str
     is_update: bool
     is_all: bool
+    maker: Optional[Maker] = None
 
 
 def pictured(test: Test, shot: Shot, kept: Results, now: bytes, out: str) -> str:
@@ -146,7 +152,32 @@ def kept_of(test: Test, how: How) -> Optional[Results]:
 
 
 def judge(test: Test, how: How) -> Judged:
-    """Runs a test and compares it with what is kept, or keeps it."""
+    """Runs a test and compares it with what is kept, or keeps it. The state from which it begins is made anew first where that is asked for."""
+    if test.start is None:
+        return judge_run(test, how)
+    made = made_anew(test, how)
+    lacks = lacking(test.start, test.cart)
+    if lacks:
+        return Judged(test.name, NEW, [lacks])
+    test.check_start(test.start.saved_at())
+    found = judge_run(test, how)
+    found.told = made + found.told
+    if made and how.is_update and found.verdict == PASS:
+        found.verdict = KEPT
+    return found
+
+
+def made_anew(test: Test, how: How) -> List[str]:
+    """Makes the state from which a test begins, where that is asked for and the test tells how; returns what is told of it."""
+    if how.maker is None or test.start is None or not test.start.is_made:
+        return []
+    with test.script() as script:
+        changed = how.maker.make(test.start, test.cart, script, test.name)
+    return [f"{test.start.state} was made anew"] if changed else []
+
+
+def judge_run(test: Test, how: How) -> Judged:
+    """Runs a test, whose state is there where it begins from one, and compares it with what is kept, or keeps it."""
     kept = kept_of(test, how)
     run = ran(test, how.program, how.timeout, kept, sys.maxsize if how.is_all else MOST_HELD)
     if run.stopped:
@@ -240,7 +271,7 @@ def read_words() -> argparse.Namespace:
     words.add_argument("--update", nargs="?", const="", default=None)
     for name in ("--filter", "--junit", "--nds"):
         words.add_argument(name)
-    for name in ("--last-failed", "-x", "--all", "--list"):
+    for name in ("--last-failed", "-x", "--all", "--list", "--remake"):
         words.add_argument(name, action="store_true")
     count = len(os.sched_getaffinity(0)) if hasattr(os, "sched_getaffinity") else os.cpu_count() or 1
     words.add_argument("--jobs", type=count_from(1, int), default=count)
@@ -274,7 +305,9 @@ def main() -> int:
     if given.list:
         print("\n".join(name for _, name in tests))
         return GOOD
-    how = How(ready(given.nds), given.timeout, given.out, given.update is not None, given.all)
+    program, is_update = ready(given.nds), given.update is not None
+    maker = Maker(program, given.timeout) if is_update or given.remake else None
+    how = How(program, given.timeout, given.out, is_update, given.all, maker)
     all_judged = judge_all(tests, how, given.jobs, given.x)
     tell_end(given, all_judged, len(tests) - len(all_judged))
     last.keep([(path, it.status == GOOD) for (path, _), it in zip(tests, all_judged)])

@@ -15,6 +15,8 @@ PLACE = re.compile(r"(?:(?P<proc>[97]):)?(?P<base>@?[^:+]+)(?:\+(?P<more>\w+))?(
 NINE = ((0x0200_0000, 0x02FF_FFFF, "main"), (0x0500_0000, 0x05FF_FFFF, "palette"), (0x0700_0000, 0x07FF_FFFF, "oam"), (0, 0x01FF_FFFF, "itcm"))
 SEVEN = ((0x0200_0000, 0x02FF_FFFF, "main"), (0x0300_0000, 0x037F_FFFF, "wram"), (0x0380_0000, 0x03FF_FFFF, "wram7"))
 MOST_WORDS = 4_096
+# A bank of video memory that is mapped: whose addresses these are (0 for ARM9, 1 for ARM7), from, to, and its offset in video memory.
+Bank = Tuple[int, int, int, int]
 
 
 @dataclass(frozen=True)
@@ -33,10 +35,12 @@ class Place:
 
 @dataclass(frozen=True)
 class Map:
-    """What is known of a program: its symbols, by processor, and where DTCM lies, where somebody says so; an output doesn't tell."""
+    """What is known of a program: its symbols, by processor; where DTCM lies, where somebody says so, and which banks of video memory are mapped
+    where: an output doesn't tell, and a saved state does."""
 
     elves: Tuple[Optional[Elf], Optional[Elf]] = (None, None)
     dtcm: Optional[int] = None
+    banks: Tuple[Bank, ...] = ()
 
     @cached_property
     def linked_dtcm(self) -> Optional[int]:
@@ -64,7 +68,11 @@ class Map:
         for first, last, memory in (NINE, SEVEN)[proc]:
             if first <= address <= last:
                 return memory, address % names.SIZES[memory]
+        for whose, first, last, offset in self.banks:
+            if whose == proc and first <= address <= last:
+                return "vram", offset + address - first
         more = ", since an output doesn't hold the banks' controls: give 0x6800000 and on, or @vram+OFFSET" if 0x0600_0000 <= address < 0x0680_0000 else ""
+        more = ": no bank is mapped there" if more and self.banks else more
         raise Untold(f"no memory is known at 0x{address:08x} of {names.PROCESSORS[proc]}{more}")
 
     def word_at(self, proc: int, address: int, record: Memory, size: int = 4) -> Optional[int]:

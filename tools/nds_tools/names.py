@@ -123,6 +123,11 @@ def frame_number(tick: int) -> int:
     return 0 if rest or count < 0 else count + 1
 
 
+def frames_below(tick: int) -> int:
+    """Returns how many frames become whole below a tick."""
+    return max((tick - 1 - FIRST_FRAME) // FRAME_TICKS + 1, 0)
+
+
 def ticks_of_frames(count: int) -> int:
     """Returns the tick to run to so that `count` frames become whole, the last of them at the step before it."""
     return FIRST_FRAME + FRAME_TICKS * (count - 1) + 1

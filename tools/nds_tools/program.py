@@ -7,7 +7,7 @@ from typing import IO, Optional, Tuple
 from nds_tools.words import Untold
 
 TOP = os.path.dirname(os.path.dirname(os.path.dirname(os.path.realpath(__file__))))
-DONE, LEFT_OUT = 0, 9
+DONE, LEFT_OUT, BAD_STATE = 0, 9, 11
 # What the wrapper tells before each run of a program that isn't proved.
 UNPROVED = "nds: NOT PROVED"
 # What a program for Linux begins with; the wrapper is a script.
@@ -55,6 +55,16 @@ def ready(given: Optional[str]) -> str:
 def words_of_run(cart: str, keys: str, ticks: int, keep: str) -> Tuple[str, ...]:
     """Returns the words of a run; files' names can't begin with - there."""
     return ("run", plain(cart), keys if keys == "none" else plain(keys), str(ticks), keep)
+
+
+def words_of_save(cart: str, keys: str, tick: int) -> Tuple[str, ...]:
+    """Returns the words that save the state at a tick."""
+    return ("save", plain(cart), keys if keys == "none" else plain(keys), str(tick))
+
+
+def words_of_resume(state: str, cart: str, keys: str, ticks: int, keep: str) -> Tuple[str, ...]:
+    """Returns the words of a run that goes on from a saved state."""
+    return ("resume", plain(state), *words_of_run(cart, keys, ticks, keep)[1:])
 
 
 def plain(name: str) -> str:

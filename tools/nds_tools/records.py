@@ -136,7 +136,8 @@ class Reader:
         first = self.stream.read(1)
         self.at += len(first)
         if first and first not in b"FGMEX":
-            raise Untold(f"{self.name}: byte {self.begin} is 0x{first[0]:02x}, which begins no record")
+            hint = ": a saved state begins so, which nds-show --state shows" if first == b"S" and not self.begin else ""
+            raise Untold(f"{self.name}: byte {self.begin} is 0x{first[0]:02x}, which begins no record{hint}")
         return first.decode() if first else None
 
     def __iter__(self) -> Iterator[Record]:

@@ -4,6 +4,8 @@
     tools/nds-show OUTPUT --cart GAME.nds [--keys F] [--elf9 F] [--elf7 F] [PLACE..]
     tools/nds-show GAME.nds --frame N|--ticks N [--keys F] [--elf9 F] [--elf7 F] [--all] [PLACE..]
     tools/nds-show NAME.test [--frame N|--ticks N] [--all] [PLACE..]
+    tools/nds-show --state FILE [--cart GAME.nds] [--elf9 F] [--elf7 F] [--all] [PLACE..]
+    tools/nds-show --cart GAME.nds --tick N [--keys F] [--elf9 F] [--elf7 F] [--all] [PLACE..]
 
   OUTPUT      what `nds run` wrote; `-` is standard input
   GAME.nds    with --frame or --ticks, a cartridge, which is run until N frames are whole, as by `frames N` in a test, or to a tick. Where
@@ -14,7 +16,10 @@
               main, wram, wram7, itcm, dtcm, palette, vram and oam
   --elf9 F, --elf7 F   the ELF files of both programs, for their symbols
   --text      shows places as text, up to the first zero
-  --all       all 37 registers, those of every mode too
+  --all       all 37 registers, those of every mode too; of a state all its fields too, each with its offset in bytes
+  --state F   a saved state, as `nds save` writes it: its processors, what is odd, and every port by GBATEK's name. DTCM and the banks of video
+              memory are where the state has them. With --cart it is told whether it is that cartridge's
+  --tick N    saves the state of --cart at that tick, and shows it
   --dtcm A    where the program put DTCM; left out, as ARM9's ELF file has it (the symbol __dtcm_start, or a section with dtcm in its
               name), and otherwise it is assumed where it is at boot, at 0x3000000, which is said where a place lies in it
   --keys F    a key script, keys by frame, or a recording (.dsm)
@@ -23,7 +28,7 @@
   --nds PATH  the program to run; left out, that of NDS_PROGRAM, or this repository's nds
 
 Ends with 0, and with 2 where that can't be told: the output ends in a stop and there is no cartridge to run to it, or is none of a run; a
-place, a symbol or a file isn't there. docs/BOOT_ROM.md tells more of hangs."""
+file is no state; a place, a symbol or a file isn't there. docs/BOOT_ROM.md tells more of hangs, docs/STATES.md of saved states."""
 import argparse
 import io
 import shlex
@@ -35,13 +40,17 @@ from nds_tools.elf import Elf
 from nds_tools.game_tests import MOST_TICKS, Test, test_of
 from nds_tools.hangs import waiting, where
 from nds_tools.memory import Map, shown, text_in
-from nds_tools.program import DONE, LEFT_OUT, finished, program, ready, said, words_of_run
+from nds_tools.program import DONE, LEFT_OUT, finished, program, ready, said, words_of_run, words_of_save
 from nds_tools.records import End, Memory, Reader, Record, Stop, records_of
-from nds_tools.words import GOOD, Untold, Words, count_from, number
+from nds_tools.state_banks import banks_of
+from nds_tools.state_show import another_cartridge, field_lines, head_lines, odd_lines, port_lines, state_in, state_of
+from nds_tools.states import State
+from nds_tools.words import GOOD, Untold, Words, bytes_of, count_from, number
 
 TOOL = "nds-show"
 USAGE = """tools/nds-show OUTPUT|GAME.nds|NAME.test [--frame N|--ticks N] [--keys F] [--cart C] [--elf9 F] [--elf7 F] [--all] [--text]
-                      [--dtcm A] [--nds PATH] [PLACE..]"""
+                      [--dtcm A] [--nds PATH] [PLACE..]
+       tools/nds-show --state FILE|--cart GAME.nds --tick N [--keys F] [--elf9 F] [--elf7 F] [--all] [--text] [--nds PATH] [PLACE..]"""
 
 
 # How long a run may take.
@@ -177,18 +186,49 @@ def of_game(given: argparse.Namespace, test: Optional[Test]) -> Ending:
         return Run(ready(given.nds), cart, script, keys).shown_to(ticks)
 
 
+def saved_at(given: argparse.Namespace) -> State:
+    """Saves the state of a cartridge at a tick, and reads it."""
+    with scripts.of_file(given.keys) as script:
+        status, out, note = finished(ready(given.nds), SECONDS, *words_of_save(given.cart, script, given.tick))
+    if status == LEFT_OUT:
+        raise Untold(f"the run stops before tick {given.tick}, so there is no state: {said(note, status)}")
+    if status != DONE:
+        raise Untold(scripts.explained(said(note, status), given.keys))
+    return state_in(out, "what the program saved")
+
+
+def show_state(given: argparse.Namespace) -> int:
+    """Shows a saved state: of a file, or of a cartridge at a tick."""
+    state = state_of(given.state) if given.state else saved_at(given)
+    known = state.map(map_of(given.elf9, given.elf7, given.dtcm), banks_of(state))
+    asked = [known.find(it).name for it in given.places]
+    lines = head_lines(state)
+    if given.state and given.cart:
+        lines += [it for it in [another_cartridge(state, given.cart, bytes_of(given.cart))] if it]
+    lines += odd_lines(state)
+    for proc in range(2):
+        lines += processor(proc, state.memory, known, given.all)
+    lines += port_lines(state) + (field_lines(state) if given.all else [])
+    print("\n".join(lines + places(state.memory, known, asked, given.text)))
+    return GOOD
+
+
 def read_words() -> argparse.Namespace:
     words = Words(TOOL, USAGE, __doc__ or "")
-    words.add_argument("output")
+    words.add_argument("output", nargs="?")
     words.add_argument("places", nargs="*")
-    for name in ("--elf9", "--elf7", "--dtcm", "--cart", "--nds"):
+    for name in ("--elf9", "--elf7", "--dtcm", "--cart", "--nds", "--state"):
         words.add_argument(name)
     words.add_argument("--keys", default=scripts.NONE)
-    words.add_argument("--frame", type=count_from(1, int))
-    words.add_argument("--ticks", type=count_from(1, int))
+    for name in ("--frame", "--ticks", "--tick"):
+        words.add_argument(name, type=count_from(1, int))
     words.add_argument("--all", action="store_true")
     words.add_argument("--text", action="store_true")
     given = words.read()
+    if given.state or given.tick:
+        return words_of_state(given)
+    if given.output is None:
+        words.error("the following arguments are required: output")
     if given.frame and given.ticks:
         raise Untold("--frame and --ticks don't go together")
     if given.cart and (given.frame or given.ticks):
@@ -197,8 +237,22 @@ def read_words() -> argparse.Namespace:
     return given
 
 
+def words_of_state(given: argparse.Namespace) -> argparse.Namespace:
+    """Takes the words where a state is to be shown, of which all that are no option's are places."""
+    if given.state and given.tick:
+        raise Untold("--state and --tick don't go together: one shows a file, the other saves a state first")
+    if given.frame or given.ticks:
+        raise Untold(f"--{'frame' if given.frame else 'ticks'} shows a run's end; a state is saved by --tick")
+    if given.tick and not given.cart:
+        raise Untold(f"--tick {given.tick} wants --cart GAME.nds beside it")
+    given.places = ([given.output] if given.output else []) + given.places
+    return given
+
+
 def main() -> int:
     given = read_words()
+    if given.state or given.tick:
+        return show_state(given)
     test = test_of(given.output, elf9=given.elf9, elf7=given.elf7, dtcm=given.dtcm, cart=given.cart, keys=given.keys)
     known = test.map() if test else map_of(given.elf9, given.elf7, given.dtcm)
     asked = [known.find(it).name for it in given.places]

@@ -19,8 +19,17 @@ TOP = os.path.dirname(TOOLS)
 MEMORIES = {"main": 4194304, "wram": 32768, "wram7": 65536, "itcm": 32768, "dtcm": 16384, "palette": 2048, "vram": 671744, "oam": 2048}
 R15, CPSR = 30, 31
 # Answers `run CART ..` with what CART.out holds (or, at tick 44, CART.before) and the status of CART.status, and `asm FILE` with what FILE.out holds; keeps its words.
+# `save CART ..` has CART.saved, and `resume STATE CART ..` CART.out; their statuses and notes are those of CART.save and CART.resume in their place.
 FAKE = r"""#!/bin/sh
 echo "$*" >>"$(dirname "$0")/calls"
+if [ "$1" = save ] || [ "$1" = resume ]; then
+    cart=$2 out=$2.saved
+    [ "$1" = resume ] && cart=$3 out=$3.out
+    [ -e "$cart.$1.note" ] && cat "$cart.$1.note" >&2
+    [ -e "$cart.$1.status" ] && exit "$(cat "$cart.$1.status")"
+    cat "$out"
+    exit
+fi
 [ -e "$2.slow" ] && exec sleep 30
 [ -e "$2.note" ] && cat "$2.note" >&2
 if [ "$1,$4" = run,44 ] && [ -e "$2.before" ]; then cat "$2.before"; exit 0; fi

@@ -7,11 +7,12 @@ import tempfile
 import unittest
 from unittest import mock
 
-from made import TOP  # noqa: F401 (it puts the tools on the path)
+from made import end, memory, stop
 from nds_tools.hostile import answers, makers
 from nds_tools.hostile.answers import Answer, Runner
 from nds_tools.hostile.checked import MARK, Checked
-from nds_tools.hostile.causes import USAGE, accepted, header_fault, script_fault, wrong
+from nds_tools.hostile.boot_state import state_at
+from nds_tools.hostile.causes import USAGE, accepted, header_fault, refusal, script_fault, wrong
 from nds_tools.hostile.fuzz import batch
 from nds_tools.hostile.memory import refused_by
 from nds_tools.words import Untold
@@ -31,10 +32,11 @@ def small(**words):
 
 class Causes(unittest.TestCase):
     def test_words(self):
-        good = ("run C none 9 none", "run C K 100000000000 all", "list C 9t", "asm F", "trace C none 1 7 1000000", "peek C none 9 dtcm 16383 1", "demo 0 1", "demo 4294967295 9")
+        good = ("run C none 9 none", "run C K 100000000000 all", "list C 9t", "asm F", "trace C none 1 7 1000000", "peek C none 9 dtcm 16383 1", "demo 0 1", "demo 4294967295 9", "save C K 9", "resume S C none 9 last")
         bad = (
             "", "run", "run C none 0 none", "run C none 01 none", "run C none 100000000001 none", "run C none 9 some", "run -c none 9 none", "list C 9T",
             "asm", "asm F F", "trace A none 9 9 0", "trace A none 9 8 1", "peek A none 9 dtcm 16384 1", "peek A none 9 dtcm 0 4097", "demo 4294967296 9", "demo -1 9",
+            "save C K 0", "save C K 9 none", "resume S C none 9", "resume C none 9 none", "resume S C none 9 some", "resume S C none 0 none",
         )
         for text in good:
             self.assertTrue(accepted(text.split()), text)
@@ -73,6 +75,50 @@ class Causes(unittest.TestCase):
         )
         for words, answer, right in rows:
             self.assertEqual(wrong(words, files, answer) is None, right, (words, answer))
+
+
+class States(unittest.TestCase):
+    """What a program has to answer to states, by the tools' own reading of them."""
+
+    def setUp(self):
+        self.cart, self.state = small(), state_at(small(), 100)
+        self.files = {"cart": self.cart, "state": self.state}
+
+    def right(self, words, answer, **files):
+        return wrong(words.split(), {**self.files, **files}, answer) is None
+
+    def test_saves(self):
+        rows = (
+            ("save cart none 100", Answer(0, self.state, b""), True), ("save cart none 101", Answer(0, self.state, b""), False),
+            ("save cart none 100", Answer(0, self.state[:-1], b""), False), ("save cart none 100", Answer(0, self.state, b"x"), False),
+            ("save cart none 100", Answer(9, b"", b"left out: Swi tick 3 actor 22 value 0x0000000e\n"), True),
+            ("save cart none 3", Answer(9, b"", b"left out: Swi tick 3 actor 22 value 0x0000000e\n"), False),
+            ("save cart none 100", Answer(9, b"X", b"left out: Swi tick 3 actor 22 value 0x0000000e\n"), False),
+            ("save nothing none 100", Answer(3, b"", b"no file: nothing\n"), True),
+        )
+        for words, answer, is_right in rows:
+            self.assertEqual(self.right(words, answer), is_right, (words, answer.status))
+
+    def test_resumes(self):
+        whole = memory() + end(200)
+        rows = (
+            ("resume state cart none 200 none", Answer(0, whole, b""), {}, True), ("resume state cart none 201 none", Answer(0, whole, b""), {}, False),
+            ("resume state cart none 100 none", Answer(11, b"", b"bad state: offset 34\n"), {}, True), ("resume state cart none 100 none", Answer(0, whole, b""), {}, False),
+            ("resume state cart none 200 none", Answer(11, b"", b"bad state: offset 34\n"), {}, False),
+            ("resume state cart none 200 none", Answer(11, b"", b"bad state: offset 2\n"), {"cart": self.cart + b"\0"}, True),
+            ("resume state cart none 200 none", Answer(11, b"", b"bad state: offset 5018009\n"), {"state": state_at(self.cart, 100, {"WRAMCNT": 4})}, True),
+            ("resume state cart none 200 none", Answer(6, b"", b"too long: state\n"), {"state": bytes(8388609)}, True),
+            ("resume nothing nobody none 200 none", Answer(3, b"", b"no file: nothing\n"), {}, True), ("resume state nobody none 200 none", Answer(3, b"", b"no file: nobody\n"), {}, True),
+            ("resume state cart nokeys 200 none", Answer(3, b"", b"no file: nokeys\n"), {"state": b""}, True),
+            ("resume state cart none 200 none", Answer(11, b"", b"bad state: offset 0\n"), {"state": b""}, True),
+            ("resume state cart none 200 none", Answer(9, stop(150), b"left out: Swi tick 150 actor 22 value 0x0000000e\n"), {}, True),
+        )
+        for words, answer, files, is_right in rows:
+            self.assertEqual(self.right(words, answer, **files), is_right, (words, answer.note))
+
+    def test_made_states_are_accepted_or_not(self):
+        found = [wanted[0] if wanted else 0 for wanted in (refusal(*makers.resumes(random.Random(number))) for number in range(30))]
+        self.assertEqual(set(found), {0, 11})
 
 
 # A program in whose last four bytes the number of the growth to refuse stands, and what it makes of that number.

@@ -76,7 +76,7 @@ class CGame(Room):
         super().setUp()
         shutil.copytree(f"{TOP}/examples/c-game", f"{self.room}/game/was")
         for name in os.listdir(f"{self.room}/game/was"):
-            if name not in ("tests", "flags.txt", "game.elf", "seven.elf", "c-game.nds"):
+            if name not in ("tests", "later", "flags.txt", "game.elf", "seven.elf", "c-game.nds"):
                 shutil.copy(f"{self.room}/game/was/{name}", f"{self.room}/game/")
         for name in ("clang", "arm-none-eabi-gcc"):
             os.chmod(self.put(f"bin/{name}", COMPILER), 0o755)

@@ -11,7 +11,7 @@ from nds_tools.words import Untold
 # the clock for a run that hangs.
 SECONDS = 20
 MOST_ALARMS = 30
-NAMES = {0: "Done", 2: "Usage", 3: "NoFile", 4: "ReadFault", 5: "WriteFault", 6: "TooLong", 7: "BadHeader", 8: "BadScript", 9: "LeftOut", 10: "BadText", 12: "NoMemory"}
+NAMES = {0: "Done", 2: "Usage", 3: "NoFile", 4: "ReadFault", 5: "WriteFault", 6: "TooLong", 7: "BadHeader", 8: "BadScript", 9: "LeftOut", 10: "BadText", 11: "BadState", 12: "NoMemory"}
 
 
 @dataclass(frozen=True)

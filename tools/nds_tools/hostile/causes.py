@@ -1,11 +1,13 @@
-"""What the program has to answer, said anew from docs/FORMATS.md, SCRIPTS.md and LISTING.md: the tools' own reading of those pages."""
+"""What the program has to answer, said anew from docs/FORMATS.md, SCRIPTS.md, LISTING.md and STATES.md: the tools' own reading of those pages."""
 import re
 import struct
 from typing import Dict, List, Optional, Tuple
 
 from nds_tools.hostile.answers import Answer
+from nds_tools.state_fields import read_state
+from nds_tools.states import MOST_BYTES, Broken, Wanted, digest_of
 
-USAGE = "usage: nds run|list|asm|trace|peek|demo"
+USAGE = "usage: nds run|list|asm|trace|peek|demo|save|resume"
 MEMORIES = {"main": 4194304, "wram": 32768, "wram7": 65536, "itcm": 32768, "dtcm": 16384, "palette": 2048, "vram": 671744, "oam": 2048}
 KEYS = ("A", "B", "SELECT", "START", "RIGHT", "LEFT", "UP", "DOWN", "R", "L", "X", "Y")
 KINDS = ("NotYet", "Swi", "BigEndian", "HaltMode", "DmaStart", "CardTransfer", "DisplayMode", "BgMode", "Capture", "Mosaic", "ExtendedBackground", "BitmapObject")
@@ -32,10 +34,14 @@ def accepted(words: List[str]) -> bool:
         return len(more) == 2 and more[1] in ("9", "7", "9t", "7t")
     if command == "demo":
         return len(more) == 2 and number(more[0], 0, 2**32 - 1) and number(more[1], 1, MOST_TICKS)
-    if command not in ("run", "trace", "peek") or len(more) < 3 or not number(more[2], 1, MOST_TICKS):
+    if command == "resume":
+        command, more = "run", more[1:]
+    if command not in ("run", "trace", "peek", "save") or len(more) < 3 or not number(more[2], 1, MOST_TICKS):
         return False
     if command == "run":
         return len(more) == 4 and more[3] in ("all", "last", "none")
+    if command == "save":
+        return len(more) == 3
     if command == "trace":
         return len(more) == 5 and more[3] in ("9", "7") and number(more[4], 1, 1_000_000)
     if len(more) != 6 or more[3] not in MEMORIES:
@@ -141,6 +147,35 @@ def script_refusal(name: str, files: Dict[str, bytes]) -> Optional[Refusal]:
     return (8, f"bad script: line {fault[0]} column {fault[1]}") if fault else None
 
 
+def ticks_of(words: List[str]) -> int:
+    """Returns the tick that accepted words run to."""
+    return int(words[{"demo": 2, "resume": 4}.get(words[0], 3)])
+
+
+def state_fault(state: bytes, cart: bytes, until: int) -> Optional[int]:
+    """Returns the offset at which bytes are no state of a cartridge for a run to a tick; None where they are one."""
+    try:
+        read_state(state, Wanted(digest_of(cart), until))
+    except Broken as why:
+        return why.offset
+    return None
+
+
+def resume_refusal(words: List[str], files: Dict[str, bytes]) -> Optional[Refusal]:
+    """Returns the status and the note of a run from a state that is refused by its files."""
+    name, cart, keys = words[1:4]
+    state = files.get(name)
+    if state is None:
+        return 3, f"no file: {name}"
+    if len(state) > MOST_BYTES:
+        return 6, f"too long: {name}"
+    found = cart_refusal(cart, files) or script_refusal(keys, files)
+    if found:
+        return found
+    offset = state_fault(state, files[cart], ticks_of(words))
+    return None if offset is None else (11, f"bad state: offset {offset}")
+
+
 def refusal(words: List[str], files: Dict[str, bytes]) -> Optional[Refusal]:
     """Returns the status and the note that come before anything is run, or None where the files and words are accepted. (Of a text it tells only whether it is there.)"""
     if not accepted(words):
@@ -150,6 +185,8 @@ def refusal(words: List[str], files: Dict[str, bytes]) -> Optional[Refusal]:
         return None
     if command == "asm":
         return None if words[1] in files else (3, f"no file: {words[1]}")
+    if command == "resume":
+        return resume_refusal(words, files)
     found = cart_refusal(words[1], files)
     return found or (None if command == "list" else script_refusal(words[2], files))
 
@@ -160,20 +197,31 @@ def wrong_stop(words: List[str], answer: Answer) -> Optional[str]:
     if not told or told[1].decode() not in KINDS[1:]:
         return "the note of the stop is none"
     kind, tick, rank, value = KINDS.index(told[1].decode()) + 1, int(told[2]), int(told[3]), int(told[4], 16)
-    if tick >= int(words[2] if words[0] == "demo" else words[3]) or rank > 23:
+    if tick >= ticks_of(words) or rank > 23:
         return "the stop isn't below the limit"
-    if words[0] == "run" and not answer.out.endswith(b"X" + struct.pack("<QBBI", tick, rank, kind, value)):
+    if words[0] in ("run", "resume") and not answer.out.endswith(b"X" + struct.pack("<QBBI", tick, rank, kind, value)):
         return "the record isn't the note's"
-    return "there is output" if words[0] in ("peek", "demo") and answer.out else None
+    return "there is output" if words[0] in ("peek", "demo", "save") and answer.out else None
 
 
-def wrong_end(words: List[str], answer: Answer) -> Optional[str]:
+def wrong_state(words: List[str], files: Dict[str, bytes], answer: Answer) -> Optional[str]:
+    """Returns what is wrong with a state that was saved."""
+    cart, ticks = files[words[1]], ticks_of(words)
+    offset = state_fault(answer.out, cart, ticks + 1)
+    if offset is not None:
+        return f"what is saved is no state: offset {offset}"
+    return None if read_state(answer.out).tick == ticks else "the state isn't the tick's"
+
+
+def wrong_end(words: List[str], files: Dict[str, bytes], answer: Answer) -> Optional[str]:
     """Returns what is wrong with the answer of a command that came to its end."""
     if answer.note:
         return "there is a note"
-    if words[0] == "run":
+    if words[0] == "save":
+        return wrong_state(words, files, answer)
+    if words[0] in ("run", "resume"):
         ticks, nine, seven, events, turns = struct.unpack("<5Q", answer.out[-40:])
-        if answer.out[-41:-40] != b"E" or ticks != int(words[3]):
+        if answer.out[-41:-40] != b"E" or ticks != ticks_of(words):
             return "the record of the end isn't the run's"
         if nine + seven + events > 24 * ticks or turns > nine + seven + events:
             return "the counts are too large"
@@ -196,4 +244,4 @@ def wrong(words: List[str], files: Dict[str, bytes], answer: Answer) -> Optional
         return wrong_stop(words, answer)
     if answer.status == 10 and words[0] == "asm":
         return None if re.match(rb"bad text: line [1-9]\d*\n\Z", answer.note) and not answer.out else "the note is none"
-    return wrong_end(words, answer) if answer.status == 0 else f"{answer.name()} has no cause"
+    return wrong_end(words, files, answer) if answer.status == 0 else f"{answer.name()} has no cause"

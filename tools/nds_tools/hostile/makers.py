@@ -3,7 +3,10 @@ import random
 import struct
 from typing import Dict, List, Tuple
 
+from nds_tools.hostile.boot_state import values_at
 from nds_tools.hostile.causes import KEYS, MEMORIES, MOST_TICKS
+from nds_tools.state_fields import layout, write_state
+from nds_tools.states import NO_TICK, Field, Seen, Value, Wanted
 
 Case = Tuple[List[str], Dict[str, bytes]]
 LOOP = 0xEAFFFFFE
@@ -137,6 +140,8 @@ def words(chance: random.Random) -> Case:
             ["peek", "cart", "keys", "9", "main", "0", "4"],
             ["demo", "3", "9"],
             ["asm", "nothing"],
+            ["save", "cart", "none", "9"],
+            ["resume", "nothing", "cart", "none", "9", "none"],
         )
     )
     strange = ("", "-", "-x", "0", "01", "9", "9t", "none", "all", "keys", "nothing", "4294967295", "4294967296", "100000000000", "100000000001", "1000001", "4097", "9 ", "+9", "main", "oam", "18446744073709551617", "ä")
@@ -164,7 +169,64 @@ def listings(chance: random.Random) -> Case:
     return ["list", "cart", chance.choice(("9", "7", "9t", "7t"))], {"cart": cart(chance, image, image)}
 
 
-WAYS = ((runs, 50), (headers, 10), (scripts, 12), (words, 10), (listings, 16), (demos, 2))
+def value(chance: random.Random, field: Field, before: Value, tick: int) -> Value:
+    """Returns another value of a field, an edge of it often; of bytes it changes one, and of several numbers too."""
+    if isinstance(before, bytes):
+        at = chance.randrange(len(before))
+        return before[:at] + bytes([chance.getrandbits(8)]) + before[at + 1 :]
+    if isinstance(before, tuple):
+        at = chance.randrange(len(before))
+        return (*before[:at], fresh(chance, field, before[at], tick), *before[at + 1 :])
+    return fresh(chance, field, before, tick)
+
+
+def fresh(chance: random.Random, field: Field, before: int, tick: int) -> int:
+    """Returns another number of a field."""
+    bits, at = 8 * field.width, chance.random()
+    if field.code == "Q" and at < 0.7:
+        return chance.choice((0, 1, tick - 1, tick, tick + 1, tick + 2**32, tick + 2**32 + 1, NO_TICK)) % 2**64
+    if field.code in "BH" and at < 0.5:
+        return chance.choice((0, 1, 2, 3, 4, 5, 15, 16, 17, 31, 32, 64, 128, 132))
+    number = before ^ 1 << chance.randrange(bits) if at < 0.6 else chance.choice(EDGES) if at < 0.8 else chance.getrandbits(bits)
+    return (number + (2 ** (bits - 1) if field.code in "hi" else 0)) % 2**bits - (2 ** (bits - 1) if field.code in "hi" else 0)
+
+
+def state(chance: random.Random, whole: bytes, tick: int) -> bytes:
+    """Returns a state of a cartridge that was changed in some fields: it may be one that is accepted, or break a rule."""
+    values, seen = values_at(whole, tick), Seen()
+    fields = [it for it in layout(Seen(values), Wanted()) if it.name in values]
+    chosen = {it.name for it in chance.sample(fields, chance.choice((0, 1, 1, 2, 2, 3, 5, 9)))}
+    for field in layout(seen, Wanted()):
+        zero: Value = bytes(field.count) if field.code == "s" else (0,) * field.count if field.is_many else 0
+        it = values.get(field.name, zero)
+        is_changed = field.name in chosen or (field.name not in values and chance.random() < 0.2)
+        seen[field.name] = value(chance, field, it, tick) if is_changed else it
+        if field.name in ("open vertices", "open polygons", "swapped vertices", "swapped polygons", "GXFIFO count"):
+            seen[field.name] = min(seen.number(field.name), 400)
+    return write_state(dict(seen))
+
+
+def resumes(chance: random.Random) -> Case:
+    """A run from a state that was made and changed field by field, or whose bytes were cut or changed."""
+    whole, tick = cart(chance, code(chance), code(chance)), chance.choice((0, 1, 9, 3213, 4000))
+    content = state(chance, whole, tick)
+    at = chance.random()
+    if at < 0.05:
+        content = content[: chance.choice((0, 1, 34, 74, 400, 5_015_952, chance.randrange(len(content)), len(content) - 1))]
+    elif at < 0.08:
+        content += bytes(chance.choice((1, 4)))
+    until = str(max(tick + chance.choice((0, 1, 1, 9, 100, 3000)), 1))
+    given = whole + b"\0" if chance.random() < 0.03 else whole
+    return ["resume", "state", "cart", "none", until, chance.choice(("none", "none", "last", "all"))], {"cart": given, "state": content}
+
+
+def saves(chance: random.Random) -> Case:
+    """A state of code by chance."""
+    files = {"cart": cart(chance, code(chance), code(chance))}
+    return ["save", "cart", "none", str(chance.choice((1, 9, 100, 3213, 4000, 20000)))], files
+
+
+WAYS = ((runs, 50), (headers, 10), (scripts, 12), (words, 10), (listings, 16), (demos, 2), (resumes, 6), (saves, 4))
 
 
 def case(chance: random.Random) -> Case:

@@ -8,6 +8,7 @@ from dataclasses import dataclass
 from typing import Dict, List, Optional, Tuple
 
 from nds_tools.hostile.answers import Answer, Runner
+from nds_tools.hostile.boot_state import state_at
 from nds_tools.hostile.checked import Checked, caught
 from nds_tools.hostile.makers import LOOP
 from nds_tools.words import Untold
@@ -67,7 +68,8 @@ def commands() -> Tuple[Dict[str, bytes], List[List[str]]]:
     for at, place in ((0x20, 0x0200_0000), (0x30, 0x0210_0000)):
         for more, value in enumerate((0x200, place, place, 4)):
             header[at + 4 * more : at + 4 * more + 4] = value.to_bytes(4, "little")
-    files = {"cart": bytes(header) + loop, "keys": b"".join(b"%d A\n%d -\n" % (2 * it, 2 * it + 1) for it in range(300)), "text": b".arm9 0x2000000\nmov r0, #0x1\n"}
+    cart = bytes(header) + loop
+    files = {"cart": cart, "state": state_at(cart, 5), "keys": b"".join(b"%d A\n%d -\n" % (2 * it, 2 * it + 1) for it in range(300)), "text": b".arm9 0x2000000\nmov r0, #0x1\n"}
     return files, [
         ["run", "cart", "none", "9", "none"],
         ["run", "cart", "keys", "9", "all"],
@@ -76,6 +78,8 @@ def commands() -> Tuple[Dict[str, bytes], List[List[str]]]:
         ["trace", "cart", "keys", "9", "9", "2"],
         ["peek", "cart", "keys", "9", "main", "0", "4"],
         ["demo", "0", "9"],
+        ["save", "cart", "keys", "9"],
+        ["resume", "state", "cart", "keys", "9", "all"],
     ]
 
 

@@ -49,4 +49,7 @@ pub use saturating::saturate;
 pub use statuses::{mrs, msr};
 pub use steps::{Fetched, decoded_half, decoded_word, enters, execute, execute_word, fetch, step};
 pub use swaps::swap;
-pub use transfers::{half_transfer, half_transfer_at, literal, transfer, transfer_at};
+pub use transfers::{
+    cut, half_transfer, half_transfer_at, literal, rotated_half, rotated_word, transfer,
+    transfer_at,
+};

@@ -9,7 +9,7 @@ ghost use Rattle.arm_core.specs.Addressing.{with_base};
 ghost use Rattle.arm_core.specs.Costs.{clocks, jump_clocks};
 ghost use Rattle.arm_core.specs.Effects.{carried_out};
 ghost use Rattle.arm_core.specs.Registers.{next, put};
-ghost use Rattle.arm_core.specs.Transfers.{half_or_signed_meaning, half_transfer_meaning, literal_meaning, load_meaning, load_word_meaning, put_word, rotated_half, signed_byte, signed_half, signed_half_meaning, store_meaning, transfer_meaning, word_or_byte_meaning};
+ghost use Rattle.arm_core.specs.Transfers.{half_or_signed_meaning, half_transfer_meaning, literal_meaning, load_meaning, load_word_meaning, put_word, rotated_half, rotated_word, signed_byte, signed_half, signed_half_meaning, store_meaning, transfer_meaning, word_or_byte_meaning};
 ghost use Rattle.arm_core.specs.declared.classes.Class.TheVariants.{Load};
 
 use crate::branches::exchange_to;
@@ -22,7 +22,7 @@ use ds_base::{Arch, Width};
 
 /// A number, cut to an access's width.
 #[inline(always)]
-fn cut(width: Width, value: u32) -> u32
+pub fn cut(width: Width, value: u32) -> u32
     ensures { result ≡ cut_to width value }
 {
     match width {
@@ -58,9 +58,17 @@ pub(crate) fn signed_half(value: u32) -> u32
     }
 }
 
+/// The word that LDR makes of what was read at an address.
+#[inline(always)]
+pub fn rotated_word(address: u32, value: u32) -> u32
+    ensures { result ≡ rotated_word address value }
+{
+    value.rotate_right(8 * (address % 4))
+}
+
 /// The half that LDRH makes of what was read at an address.
 #[inline(always)]
-fn rotated_half(arch: Arch, address: u32, value: u32) -> u32
+pub fn rotated_half(arch: Arch, address: u32, value: u32) -> u32
     ensures { result ≡ rotated_half arch address value }
 {
     let half = value & 0xFFFF;
@@ -134,14 +142,7 @@ fn load_word<B: Bus>(
     ensures same { B.identity bus.new ≡ B.identity bus.old }
 {
     let value = bus.read(to.address, Width::Word);
-    Stepped::Cost(loaded_word(
-        arch,
-        s,
-        rn,
-        rd,
-        to,
-        value.rotate_right(8 * (to.address % 4)),
-    ))
+    Stepped::Cost(loaded_word(arch, s, rn, rd, to, rotated_word(to.address, value)))
 }
 
 /// LDRB (ARM manual, A4.1).

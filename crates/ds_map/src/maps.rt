@@ -24,7 +24,9 @@ use crate::blocks::Block;
 use ds_base::{
     MAIN_BYTES, Memory, OAM_BYTES, OWN7_BYTES, PALETTE_BYTES, Proc, SHARED_BYTES, Stop, Tick, Width,
 };
-use ds_places::{MAIN_FIRST, Place, is_main, main_cell, own_cell, place, port_at, rom_word, wait};
+use ds_places::{
+    MAIN_FIRST, Place, is_main, main_cell, memory_wait, own_cell, place, port_at, rom_word, wait,
+};
 use ds_ports::{Io, part};
 use std::alloc::{AllocError, Global};
 use std::marker::Model;
@@ -154,7 +156,7 @@ impl Map {
         let (memory, at) = (Memory::Main, main_at(at));
         Given {
             number: self.main.number(at as usize, width),
-            waits: wait(proc, Place::Cell { memory, at }, width),
+            waits: cell_wait(proc, memory, at, width),
         }
     }
 
@@ -169,8 +171,26 @@ impl Map {
         let memory = Memory::Own7;
         Given {
             number: self.wram.number(at as usize, width),
-            waits: wait(proc, Place::Cell { memory, at }, width),
+            waits: cell_wait(proc, memory, at, width),
         }
+    }
+
+    /// What a processor reads at an address of main memory, or for ARM7 of its own work RAM, and how long that waits; none elsewhere.
+    #[inline(always)]
+    #[tactic(auto, unfolding(crate::specs::Accesses::map_value, crate::specs::Accesses::map_read, crate::specs::Waits::wait_at))]
+    pub fn near_given(&self, proc: Proc, at: u32, width: Width) -> Option<Given>
+        ensures value { IfSome result (λ given. (now : Tick) → (io : IoState) → given.number ≡ map_value proc now (map_seen proc self.now io) at width) }
+        ensures next { IfSome result (λ _. (now : Tick) → (io : IoState) → map_read proc now (map_seen proc self.now io) at width
+            ≡ map_seen proc self.now io) }
+        ensures waits { IfSome result (λ given. (wramcnt : ℕ) → given.waits ≡ wait_at proc wramcnt at width) }
+    {
+        if let Some(at) = own_cell(proc, at) {
+            return Some(self.own_given(proc, at, width));
+        }
+        if is_main(at) {
+            return Some(self.main_given(proc, at, width));
+        }
+        None
     }
 
     /// Puts a number at an address of main memory; the result is how long that waits.
@@ -188,7 +208,7 @@ impl Map {
     {
         let (memory, at) = (Memory::Main, main_at(at));
         self.main.set_number(at as usize, width, value);
-        wait(proc, Place::Cell { memory, at }, width)
+        cell_wait(proc, memory, at, width)
     }
 
     /// What is read at a place at a tick, and the read.
@@ -395,7 +415,7 @@ impl Map {
         if let Some(at) = own_cell(proc, at) {
             let memory = Memory::Own7;
             self.wram.set_number(at as usize, width, value);
-            return Some(wait(proc, Place::Cell { memory, at }, width));
+            return Some(cell_wait(proc, memory, at, width));
         }
         if is_main(at) {
             return Some(self.put_main(proc, at, width, value));
@@ -493,6 +513,16 @@ impl Map {
     }
 }
 
+/// How long an access of a processor's at a cell of a memory waits: as at each other cell of it.
+#[inline]
+fn cell_wait(proc: Proc, memory: Memory, at: u32, width: Width) -> u32
+    ensures value { result ≡ wait_of proc (Cell memory at) width }
+    ensures most { result ≤ 8 }
+{
+    let _ = at;
+    memory_wait(proc, memory, width)
+}
+
 /// The cell of main memory at an address of it.
 #[inline(always)]
 #[tactic(auto, using(ds_places::proofs::Rows::main_place))]
@@ -524,11 +554,11 @@ pub fn wait_at(io: &Io, proc: Proc, at: u32, width: Width) -> u32
 {
     if let Some(at) = main_cell(at) {
         let memory = Memory::Main;
-        return wait(proc, Place::Cell { memory, at }, width);
+        return cell_wait(proc, memory, at, width);
     }
     if let Some(at) = own_cell(proc, at) {
         let memory = Memory::Own7;
-        return wait(proc, Place::Cell { memory, at }, width);
+        return cell_wait(proc, memory, at, width);
     }
     if let Some(port) = port_at(at) {
         return wait(proc, Place::Port(port), width);

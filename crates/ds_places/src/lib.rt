@@ -29,4 +29,4 @@ pub use bounds::{
 };
 pub use kinds::Place;
 pub use tables::place;
-pub use waits::wait;
+pub use waits::{memory_wait, wait};

@@ -25,7 +25,8 @@ pub fn wait(proc: Proc, place: Place, width: Width) -> u32
 }
 
 /// The wait at a byte of a memory.
-fn memory_wait(proc: Proc, memory: Memory, width: Width) -> u32
+#[inline(always)]
+pub fn memory_wait(proc: Proc, memory: Memory, width: Width) -> u32
     ensures value { (at : ℕ) → result ≡ wait_of proc (Cell memory at) width }
     ensures most { result ≤ 8 }
 {

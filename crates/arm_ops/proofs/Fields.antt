@@ -30,7 +30,7 @@ use Rattle.arm_words.specs.declared.parts.ShortOffset.TheVariants.{ShortNumber, 
 use Rattle.arm_words.specs.declared.parts.ThumbOperand.{ThumbOperand}
 use Rattle.arm_words.specs.declared.parts.ThumbOperand.TheVariants.{LowRegister, Small}
 use Rattle.arm_core.specs.Thumb.{equivalent, high_instr, immediate_instr, low_operand, offset_instr, register_instr, transfer_equivalent}
-use Rattle.arm_ops.specs.Operations.{compare_number, compare_op, compare_register, data_by_shift, data_number, data_op, data_register, data_shifted, is_plain, is_simple, mla_op, move_number, move_op, move_shifted, mul_op, number_transfer, op_of, operation_of, register_transfer, rotated_number, shifted_register, short_transfer_op, transfer_op, AreAllLow, AreLow, HasOp, HasOperation, HasTransfer, IsMove}
+use Rattle.arm_ops.specs.Operations.{compare_number, compare_op, compare_register, data_by_shift, data_number, data_op, data_register, data_shifted, is_plain, is_simple, mla_op, move_number, move_op, move_shifted, mul_op, number_access, number_transfer, op_of, operation_of, register_access, register_transfer, rotated_number, shifted_register, short_transfer_op, transfer_op, AreAllLow, AreLow, HasOp, HasOperation, HasTransfer, IsMove}
 use Rattle.arm_ops.specs.declared.operations.Number.{Number}
 use Rattle.arm_ops.specs.declared.operations.Op.{Op}
 use Rattle.arm_ops.specs.declared.operations.Transfer.{Transfer}
@@ -194,13 +194,33 @@ simple_low it h e =
     let each = and_parts (not (it.rn == 15)) (not (it.rd == 15)) two.1 in
     (one_low it.rd h.1 (not-true (it.rd == 15) each.1), one_low it.rn h.0 (not-true (it.rn == 15) each.0))
 
+number_access_fields : (op : TransferOp) (rd rn offset : ℕ) → AreLow rd rn → HasOp (number_access op rd rn offset)
+number_access_fields (WordOrByte true true) rd rn offset low = low
+number_access_fields (WordOrByte true false) rd rn offset low = low
+number_access_fields (WordOrByte false true) rd rn offset low = low
+number_access_fields (WordOrByte false false) rd rn offset low = low
+number_access_fields (HalfOrSigned Strh) rd rn offset low = low
+number_access_fields (HalfOrSigned Ldrh) rd rn offset low = low
+number_access_fields (HalfOrSigned Ldrsb) rd rn offset low = low
+number_access_fields (HalfOrSigned Ldrsh) rd rn offset low = low
+
 number_transfer_fields : (it : Transfer) (offset : ℕ) → HasTransfer it → HasOp (number_transfer it offset)
-number_transfer_fields it offset h = chosen (is_simple it) _ _ (simple_low it h) h
+number_transfer_fields it offset h = chosen (is_simple it) _ _ (λ e. number_access_fields it.op it.rd it.rn offset (simple_low it h e)) h
+
+register_access_fields : (op : TransferOp) (rd rn rm : ℕ) → AreAllLow rd rn rm → HasOp (register_access op rd rn rm)
+register_access_fields (WordOrByte true true) rd rn rm low = low
+register_access_fields (WordOrByte true false) rd rn rm low = low
+register_access_fields (WordOrByte false true) rd rn rm low = low
+register_access_fields (WordOrByte false false) rd rn rm low = low
+register_access_fields (HalfOrSigned Strh) rd rn rm low = low
+register_access_fields (HalfOrSigned Ldrh) rd rn rm low = low
+register_access_fields (HalfOrSigned Ldrsb) rd rn rm low = low
+register_access_fields (HalfOrSigned Ldrsh) rd rn rm low = low
 
 register_transfer_fields : (it : Transfer) (rm : ℕ) → HasTransfer it → rm < 16 → HasOp (register_transfer it rm)
 register_transfer_fields it rm h m =
     chosen (is_simple it && not (rm == 15)) _ _ (λ e. let each = and_parts (is_simple it) (not (rm == 15)) e in
-    (simple_low it h each.0, one_low rm m (not-true (rm == 15) each.1))) (h, m)
+    register_access_fields it.op it.rd it.rn rm (simple_low it h each.0, one_low rm m (not-true (rm == 15) each.1))) (h, m)
 
 transfer_fields : (it : Transfer) (offset : Offset) → HasTransfer it → HasOffset offset → HasOp (transfer_op it offset)
 transfer_fields it (offsets.Number offset) h o = number_transfer_fields it offset h

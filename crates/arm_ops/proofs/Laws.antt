@@ -2,12 +2,15 @@ use Rattle.std.proofs.Common.{ℕ, ◌≡◌, ◌<◌, ◌==◌, ◌||◌, ◌&&
 use Rattle.std.specs.Prelude.{not}
 use Rattle.std.proofs.lemmas.Option.{none-some}
 use Rattle.ds_base.specs.declared.processors.Arch.{Arch}
+use Rattle.ds_base.specs.declared.processors.Arch.TheVariants.{V4, V5}
+use Rattle.ds_base.proofs.Choices.{if_false}
 use Rattle.arm_words.specs.declared.instructions.Instr.{Instr}
 use Rattle.arm_words.specs.declared.instructions.Instr.TheVariants as instrs
 use Rattle.arm_words.specs.declared.operations.CompareOp.{CompareOp}
 use Rattle.arm_words.specs.declared.operations.CompareOp.TheVariants.{Tst, Teq, Cmp, Cmn}
 use Rattle.arm_words.specs.declared.operations.DataOp.{DataOp}
 use Rattle.arm_words.specs.declared.operations.DataOp.TheVariants.{And, Eor, Sub, Rsb, Add, Adc, Sbc, Rsc, Orr, Bic}
+use Rattle.arm_words.specs.declared.operations.HalfOp.TheVariants.{Strh, Ldrh, Ldrsb, Ldrsh}
 use Rattle.arm_words.specs.declared.operations.MoveOp.{MoveOp}
 use Rattle.arm_words.specs.declared.operations.MoveOp.TheVariants.{Mov, Mvn}
 use Rattle.arm_words.specs.declared.parts.Condition.{Condition}
@@ -18,18 +21,19 @@ use Rattle.arm_words.specs.declared.parts.Operand.TheVariants.{Immediate, Shifte
 use Rattle.arm_words.specs.declared.parts.Shift.{Shift}
 use Rattle.arm_words.specs.declared.parts.Shift.TheVariants.{Lsl, Lsr, Asr, Ror}
 use Rattle.arm_words.specs.declared.parts.ShortOffset.TheVariants.{ShortNumber, ShortRegister}
+use Rattle.arm_core.specs.Branches.{exchanged}
 use Rattle.arm_core.specs.Conditions.{holds}
 use Rattle.arm_core.specs.DataProcessing.{compare_meaning, data_meaning, move_meaning}
 use Rattle.arm_core.specs.Effects.{Meaning, cost_of}
 use Rattle.arm_core.specs.Meanings.{act, act_processing, condition, meaning, skipped}
-use Rattle.arm_core.specs.Registers.{RegisterState, register}
+use Rattle.arm_core.specs.Registers.{RegisterState, put, register}
 use Rattle.arm_core.specs.Steps.{swi_stop}
 use Rattle.arm_core.specs.Thumb.{equivalent}
-use Rattle.arm_core.specs.Transfers.{transfer_meaning}
+use Rattle.arm_core.specs.Transfers.{put_word, transfer_meaning}
 use Rattle.arm_core.specs.declared.shifter.Shifted32.{Shifted32}
 use Rattle.arm_exec.proofs.Costs.{some_cost}
-use Rattle.arm_ops.specs.Meanings.{access_by, access_made, access_meaning, access_of, accesses_by, compare_by, data_by, meaning_by, op_meaning, operation_meaning, register_operand, shifted_operand}
-use Rattle.arm_ops.specs.Operations.{compare_number, compare_op, compare_register, data_by_shift, data_number, data_op, data_register, data_shifted, is_other, is_plain, mla_op, move_number, move_op, move_shifted, mul_op, number_transfer, op_of, operation_of, register_transfer, rotated_number, shifted_register, transfer_op}
+use Rattle.arm_ops.specs.Meanings.{access_at, access_by, access_made, access_meaning, access_of, accesses_by, compare_by, data_by, meaning_by, op_meaning, operation_meaning, register_operand, shifted_operand}
+use Rattle.arm_ops.specs.Operations.{compare_number, compare_op, compare_register, data_by_shift, data_number, data_op, data_register, data_shifted, is_other, is_plain, mla_op, move_number, move_op, move_shifted, mul_op, number_access, number_transfer, op_of, operation_of, register_access, register_transfer, rotated_number, shifted_register, transfer_op}
 use Rattle.arm_ops.specs.declared.operations.DataAccess.{DataAccess}
 use Rattle.arm_ops.specs.declared.operations.Op.{Op}
 use Rattle.arm_ops.specs.declared.operations.Op.TheVariants.{Plain}
@@ -193,16 +197,40 @@ mla_means arch base s cond true rd rm rs rn = refl
 abbrev transfer_by : TransferOp → Bool → Bool → Bool → ℕ → ℕ → Transfer
 transfer_by op pre up write_back rn rd = record { op = op; pre = pre; up = up; write_back = write_back; rn = rn; rd = rd }
 
+number_access_means : (arch : Arch) (s : RegisterState) (op : TransferOp) (rd rn offset : ℕ)
+    → op_meaning arch s (number_access op rd rn offset) ≡ access_meaning arch s (access_at s op rd rn offset)
+number_access_means arch s (WordOrByte true true) rd rn offset = refl
+number_access_means arch s (WordOrByte true false) rd rn offset = refl
+number_access_means arch s (WordOrByte false true) rd rn offset = refl
+number_access_means arch s (WordOrByte false false) rd rn offset = refl
+number_access_means arch s (HalfOrSigned Strh) rd rn offset = refl
+number_access_means arch s (HalfOrSigned Ldrh) rd rn offset = refl
+number_access_means arch s (HalfOrSigned Ldrsb) rd rn offset = refl
+number_access_means arch s (HalfOrSigned Ldrsh) rd rn offset = refl
+
 number_transfer_means : (arch : Arch) (s : RegisterState) (op : TransferOp) (pre up write_back : Bool) (rn rd offset : ℕ)
     → op_meaning arch s (number_transfer (transfer_by op pre up write_back rn rd) offset) ≡ access_meaning arch s (access_by s (transfer_by op pre up write_back rn rd) offset)
-number_transfer_means arch s op true true false rn rd offset = one_means arch s _ (not (rn == 15) && not (rd == 15)) _ _ (λ e. refl) refl
+number_transfer_means arch s op true true false rn rd offset =
+    one_means arch s _ (not (rn == 15) && not (rd == 15)) _ _ (λ e. number_access_means arch s op rd rn offset) refl
 number_transfer_means arch s op true true true rn rd offset = refl
 number_transfer_means arch s op true false write_back rn rd offset = refl
 number_transfer_means arch s op false up write_back rn rd offset = refl
 
+register_access_means : (arch : Arch) (s : RegisterState) (op : TransferOp) (rd rn rm : ℕ)
+    → op_meaning arch s (register_access op rd rn rm) ≡ access_meaning arch s (access_at s op rd rn (register s rm))
+register_access_means arch s (WordOrByte true true) rd rn rm = refl
+register_access_means arch s (WordOrByte true false) rd rn rm = refl
+register_access_means arch s (WordOrByte false true) rd rn rm = refl
+register_access_means arch s (WordOrByte false false) rd rn rm = refl
+register_access_means arch s (HalfOrSigned Strh) rd rn rm = refl
+register_access_means arch s (HalfOrSigned Ldrh) rd rn rm = refl
+register_access_means arch s (HalfOrSigned Ldrsb) rd rn rm = refl
+register_access_means arch s (HalfOrSigned Ldrsh) rd rn rm = refl
+
 register_transfer_means : (arch : Arch) (s : RegisterState) (op : TransferOp) (pre up write_back : Bool) (rn rd rm : ℕ)
     → op_meaning arch s (register_transfer (transfer_by op pre up write_back rn rd) rm) ≡ access_meaning arch s (access_by s (transfer_by op pre up write_back rn rd) (register s rm))
-register_transfer_means arch s op true true false rn rd rm = one_means arch s _ ((not (rn == 15) && not (rd == 15)) && not (rm == 15)) _ _ (λ e. refl) refl
+register_transfer_means arch s op true true false rn rd rm =
+    one_means arch s _ ((not (rn == 15) && not (rd == 15)) && not (rm == 15)) _ _ (λ e. register_access_means arch s op rd rn rm) refl
 register_transfer_means arch s op true true true rn rd rm = refl
 register_transfer_means arch s op true false write_back rn rd rm = refl
 register_transfer_means arch s op false up write_back rn rd rm = refl
@@ -281,6 +309,11 @@ made_means arch s operation access h = by_holds (holds operation.cond s.cpsr) h 
   by_holds : (b : Bool) → (if b then access_of s operation.op else None) ≡ Some access → (if b then op_meaning arch s operation.op else skipped s) ≡ access_meaning arch s access
   by_holds true is = means_access arch s operation.op access is
   by_holds false is = absurd (none-some access is)
+
+-- a word that is loaded to a register below r15 is no branch
+pub low_word : (arch : Arch) (rd value : ℕ) (s : RegisterState) → rd < 15 → put_word arch rd value s ≡ put rd value s
+low_word V4 rd value s h = refl
+low_word V5 rd value s h = if_false (rd == 15) (exchanged value s) (put rd value s) (grind (arith, h))
 
 -- what is run costs a clock at least
 pub costs : (arch : Arch) (m : Meaning) (n : ℕ) → n ≡ cost_of arch m → 0 < n

@@ -7,6 +7,7 @@ use Rattle.arm_words.specs.declared.operations.CompareOp.{CompareOp}
 use Rattle.arm_words.specs.declared.operations.CompareOp.TheVariants.{Tst, Cmp, Cmn}
 use Rattle.arm_words.specs.declared.operations.DataOp.{DataOp}
 use Rattle.arm_words.specs.declared.operations.DataOp.TheVariants.{And, Eor, Sub, Rsb, Add, Orr, Bic}
+use Rattle.arm_words.specs.declared.operations.HalfOp.TheVariants.{Ldrh, Strh}
 use Rattle.arm_words.specs.declared.operations.MoveOp.TheVariants.{Mov}
 use Rattle.arm_words.specs.declared.parts.Operand.TheVariants.{ShiftedByRegister}
 use Rattle.arm_words.specs.declared.parts.Shift.{Shift}
@@ -28,7 +29,7 @@ use Rattle.arm_ops.specs.Operations.{shifted_register}
 use Rattle.arm_ops.specs.declared.operations.DataAccess.{DataAccess}
 use Rattle.arm_ops.specs.declared.operations.Number.{Number}
 use Rattle.arm_ops.specs.declared.operations.Op.{Op}
-use Rattle.arm_ops.specs.declared.operations.Op.TheVariants.{AndNumber, EorNumber, SubNumber, RsbNumber, AddNumber, OrrNumber, BicNumber, AndRegister, EorRegister, SubRegister, RsbRegister, AddRegister, OrrRegister, BicRegister, SubsNumber, AddsNumber, AndsRegister, EorsRegister, SubsRegister, AddsRegister, OrrsRegister, BicsRegister, DataShifted, DataShiftedBy, TstNumber, CmpNumber, CmnNumber, TstRegister, CmpRegister, MovNumber, MovsNumber, MovLsl, MovLsr, MovAsr, MovRor, MovsLsl, MovsLsr, MovsAsr, Mul, Mla, Branch, AccessNumber, AccessRegister, TransferNumber, TransferRegister, TransferShifted, Literal, Plain}
+use Rattle.arm_ops.specs.declared.operations.Op.TheVariants.{AndNumber, EorNumber, SubNumber, RsbNumber, AddNumber, OrrNumber, BicNumber, AndRegister, EorRegister, SubRegister, RsbRegister, AddRegister, OrrRegister, BicRegister, SubsNumber, AddsNumber, AndsRegister, EorsRegister, SubsRegister, AddsRegister, OrrsRegister, BicsRegister, DataShifted, DataShiftedBy, TstNumber, CmpNumber, CmnNumber, TstRegister, CmpRegister, MovNumber, MovsNumber, MovLsl, MovLsr, MovAsr, MovRor, MovsLsl, MovsLsr, MovsAsr, Mul, Mla, Branch, LdrNumber, LdrbNumber, LdrhNumber, StrNumber, StrbNumber, StrhNumber, LdrRegister, LdrbRegister, LdrhRegister, StrRegister, StrbRegister, StrhRegister, AccessNumber, AccessRegister, TransferNumber, TransferRegister, TransferShifted, Literal, Plain}
 use Rattle.arm_ops.specs.declared.operations.Operation.{Operation}
 use Rattle.arm_ops.specs.declared.operations.ShiftedRegister.{ShiftedRegister}
 use Rattle.arm_ops.specs.declared.operations.Transfer.{Transfer}
@@ -82,6 +83,18 @@ abbrev pub literal_access : RegisterState → ℕ → ℕ → DataAccess
 literal_access s rd immed = record { op = WordOrByte true false; rn = 15; rd = rd; to = addressed_literal s immed }
 
 abbrev pub access_of : RegisterState → Op → Option DataAccess
+access_of s (LdrNumber rd rn offset) = Some (access_at s (WordOrByte true false) rd rn offset)
+access_of s (LdrbNumber rd rn offset) = Some (access_at s (WordOrByte true true) rd rn offset)
+access_of s (LdrhNumber rd rn offset) = Some (access_at s (HalfOrSigned Ldrh) rd rn offset)
+access_of s (StrNumber rd rn offset) = Some (access_at s (WordOrByte false false) rd rn offset)
+access_of s (StrbNumber rd rn offset) = Some (access_at s (WordOrByte false true) rd rn offset)
+access_of s (StrhNumber rd rn offset) = Some (access_at s (HalfOrSigned Strh) rd rn offset)
+access_of s (LdrRegister rd rn rm) = Some (access_at s (WordOrByte true false) rd rn (register s rm))
+access_of s (LdrbRegister rd rn rm) = Some (access_at s (WordOrByte true true) rd rn (register s rm))
+access_of s (LdrhRegister rd rn rm) = Some (access_at s (HalfOrSigned Ldrh) rd rn (register s rm))
+access_of s (StrRegister rd rn rm) = Some (access_at s (WordOrByte false false) rd rn (register s rm))
+access_of s (StrbRegister rd rn rm) = Some (access_at s (WordOrByte false true) rd rn (register s rm))
+access_of s (StrhRegister rd rn rm) = Some (access_at s (HalfOrSigned Strh) rd rn (register s rm))
 access_of s (AccessNumber op rd rn offset) = Some (access_at s op rd rn offset)
 access_of s (AccessRegister op rd rn rm) = Some (access_at s op rd rn (register s rm))
 access_of s (TransferNumber it offset) = Some (access_by s it offset)

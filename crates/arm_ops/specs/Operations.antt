@@ -7,7 +7,7 @@ use Rattle.arm_words.specs.declared.operations.CompareOp.{CompareOp}
 use Rattle.arm_words.specs.declared.operations.CompareOp.TheVariants.{Tst, Teq, Cmp, Cmn}
 use Rattle.arm_words.specs.declared.operations.DataOp.{DataOp}
 use Rattle.arm_words.specs.declared.operations.DataOp.TheVariants.{And, Eor, Sub, Rsb, Add, Orr, Bic}
-use Rattle.arm_words.specs.declared.operations.HalfOp.TheVariants.{Strh}
+use Rattle.arm_words.specs.declared.operations.HalfOp.TheVariants.{Strh, Ldrh}
 use Rattle.arm_words.specs.declared.operations.MoveOp.{MoveOp}
 use Rattle.arm_words.specs.declared.operations.MoveOp.TheVariants.{Mov, Mvn}
 use Rattle.arm_words.specs.declared.parts.Condition.TheVariants.{Al}
@@ -26,7 +26,7 @@ use Rattle.arm_core.specs.Thumb.{equivalent}
 use Rattle.arm_ops.specs.declared.operations.DataAccess.{DataAccess}
 use Rattle.arm_ops.specs.declared.operations.Number.{Number}
 use Rattle.arm_ops.specs.declared.operations.Op.{Op}
-use Rattle.arm_ops.specs.declared.operations.Op.TheVariants.{Other, AndNumber, EorNumber, SubNumber, RsbNumber, AddNumber, OrrNumber, BicNumber, AndRegister, EorRegister, SubRegister, RsbRegister, AddRegister, OrrRegister, BicRegister, SubsNumber, AddsNumber, AndsRegister, EorsRegister, SubsRegister, AddsRegister, OrrsRegister, BicsRegister, DataShifted, DataShiftedBy, TstNumber, CmpNumber, CmnNumber, TstRegister, CmpRegister, MovNumber, MovsNumber, MovLsl, MovLsr, MovAsr, MovRor, MovsLsl, MovsLsr, MovsAsr, Mul, Mla, Branch, AccessNumber, AccessRegister, TransferNumber, TransferRegister, TransferShifted, Literal, Plain}
+use Rattle.arm_ops.specs.declared.operations.Op.TheVariants.{Other, AndNumber, EorNumber, SubNumber, RsbNumber, AddNumber, OrrNumber, BicNumber, AndRegister, EorRegister, SubRegister, RsbRegister, AddRegister, OrrRegister, BicRegister, SubsNumber, AddsNumber, AndsRegister, EorsRegister, SubsRegister, AddsRegister, OrrsRegister, BicsRegister, DataShifted, DataShiftedBy, TstNumber, CmpNumber, CmnNumber, TstRegister, CmpRegister, MovNumber, MovsNumber, MovLsl, MovLsr, MovAsr, MovRor, MovsLsl, MovsLsr, MovsAsr, Mul, Mla, Branch, LdrNumber, LdrbNumber, LdrhNumber, StrNumber, StrbNumber, StrhNumber, LdrRegister, LdrbRegister, LdrhRegister, StrRegister, StrbRegister, StrhRegister, AccessNumber, AccessRegister, TransferNumber, TransferRegister, TransferShifted, Literal, Plain}
 use Rattle.arm_ops.specs.declared.operations.Operation.{Operation}
 use Rattle.arm_ops.specs.declared.operations.ShiftedRegister.{ShiftedRegister}
 use Rattle.arm_ops.specs.declared.operations.Transfer.{Transfer}
@@ -157,11 +157,30 @@ mla_op instr true rd rm rs rn = Plain instr
 abbrev pub is_simple : Transfer → Bool
 is_simple it = ((it.pre && it.up) && not it.write_back) && (not (it.rn == 15) && not (it.rd == 15))
 
+-- by what its access is
+abbrev pub number_access : TransferOp → ℕ → ℕ → ℕ → Op
+number_access (WordOrByte true false) rd rn offset = LdrNumber rd rn offset
+number_access (WordOrByte true true) rd rn offset = LdrbNumber rd rn offset
+number_access (WordOrByte false false) rd rn offset = StrNumber rd rn offset
+number_access (WordOrByte false true) rd rn offset = StrbNumber rd rn offset
+number_access (HalfOrSigned Ldrh) rd rn offset = LdrhNumber rd rn offset
+number_access (HalfOrSigned Strh) rd rn offset = StrhNumber rd rn offset
+number_access (HalfOrSigned op) rd rn offset = AccessNumber (HalfOrSigned op) rd rn offset
+
+abbrev pub register_access : TransferOp → ℕ → ℕ → ℕ → Op
+register_access (WordOrByte true false) rd rn rm = LdrRegister rd rn rm
+register_access (WordOrByte true true) rd rn rm = LdrbRegister rd rn rm
+register_access (WordOrByte false false) rd rn rm = StrRegister rd rn rm
+register_access (WordOrByte false true) rd rn rm = StrbRegister rd rn rm
+register_access (HalfOrSigned Ldrh) rd rn rm = LdrhRegister rd rn rm
+register_access (HalfOrSigned Strh) rd rn rm = StrhRegister rd rn rm
+register_access (HalfOrSigned op) rd rn rm = AccessRegister (HalfOrSigned op) rd rn rm
+
 abbrev pub number_transfer : Transfer → ℕ → Op
-number_transfer it offset = if is_simple it then AccessNumber it.op it.rd it.rn offset else TransferNumber it offset
+number_transfer it offset = if is_simple it then number_access it.op it.rd it.rn offset else TransferNumber it offset
 
 abbrev pub register_transfer : Transfer → ℕ → Op
-register_transfer it rm = if is_simple it && not (rm == 15) then AccessRegister it.op it.rd it.rn rm else TransferRegister it rm
+register_transfer it rm = if is_simple it && not (rm == 15) then register_access it.op it.rd it.rn rm else TransferRegister it rm
 
 -- by the offset
 abbrev pub transfer_op : Transfer → Offset → Op
@@ -274,6 +293,18 @@ HasOp (MovsAsr rd rm amount) = IsMove rd rm amount
 HasOp (Mul rd rm rs) = (rd < 16) × (rm < 16) × (rs < 16)
 HasOp (Mla rd rm rs rn) = (rd < 16) × (rm < 16) × (rs < 16) × (rn < 16)
 HasOp (Branch link far) = Unit {0}
+HasOp (LdrNumber rd rn offset) = AreLow rd rn
+HasOp (LdrbNumber rd rn offset) = AreLow rd rn
+HasOp (LdrhNumber rd rn offset) = AreLow rd rn
+HasOp (StrNumber rd rn offset) = AreLow rd rn
+HasOp (StrbNumber rd rn offset) = AreLow rd rn
+HasOp (StrhNumber rd rn offset) = AreLow rd rn
+HasOp (LdrRegister rd rn rm) = AreAllLow rd rn rm
+HasOp (LdrbRegister rd rn rm) = AreAllLow rd rn rm
+HasOp (LdrhRegister rd rn rm) = AreAllLow rd rn rm
+HasOp (StrRegister rd rn rm) = AreAllLow rd rn rm
+HasOp (StrbRegister rd rn rm) = AreAllLow rd rn rm
+HasOp (StrhRegister rd rn rm) = AreAllLow rd rn rm
 HasOp (AccessNumber op rd rn offset) = AreLow rd rn
 HasOp (AccessRegister op rd rn rm) = AreAllLow rd rn rm
 HasOp (TransferNumber it offset) = HasTransfer it

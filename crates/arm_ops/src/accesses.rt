@@ -1,6 +1,7 @@
 //! The accesses of data that operations make.
 
-ghost use Rattle.std.specs.Prelude.{◌≡◌, ◌<◌, IfSome};
+ghost use Rattle.std.specs.Prelude.{◌≡◌, ◌<◌, true, false, IfSome};
+ghost use Rattle.arm_core.specs.Addressing.{addressed};
 ghost use Rattle.arm_core.specs.Effects.{carried_out};
 ghost use Rattle.arm_core.specs.Footprints.{HasBytes, accessed_bytes, touched_bytes};
 ghost use Rattle.arm_core.specs.Registers.{RegisterState};
@@ -16,7 +17,38 @@ use arm_core::{
     half_touch, width_by,
 };
 use arm_exec::{half_transfer_at, transfer_at};
+use arm_words::HalfOp;
 use ds_base::Arch;
+
+/// LDR.
+const LDR: TransferOp = TransferOp::WordOrByte {
+    load: true,
+    byte: false,
+};
+
+/// LDRB.
+const LDRB: TransferOp = TransferOp::WordOrByte {
+    load: true,
+    byte: true,
+};
+
+/// LDRH.
+const LDRH: TransferOp = TransferOp::HalfOrSigned { op: HalfOp::Ldrh };
+
+/// STR.
+const STR: TransferOp = TransferOp::WordOrByte {
+    load: false,
+    byte: false,
+};
+
+/// STRB.
+const STRB: TransferOp = TransferOp::WordOrByte {
+    load: false,
+    byte: true,
+};
+
+/// STRH.
+const STRH: TransferOp = TransferOp::HalfOrSigned { op: HalfOp::Strh };
 
 /// The access of a load or store with an offset.
 #[inline(always)]
@@ -32,23 +64,28 @@ fn access_by(s: &Registers, it: Transfer, offset: u32) -> DataAccess
     }
 }
 
+/// The sum of a register below r15 and an offset, as where a load or store goes; nothing is written back.
+#[inline(always)]
+pub(crate) fn sum(s: &Registers, rn: u8, offset: u32) -> Addressed
+    requires { rn < 15 }
+    ensures { result ≡ addressed s.now true true false rn offset }
+{
+    let address = s.low(rn).wrapping_add(offset);
+    Addressed {
+        address,
+        base: address,
+        written: false,
+    }
+}
+
 /// The access of a load or store at the sum of a register below r15 and an offset.
 #[inline(always)]
 fn access_at(s: &Registers, op: TransferOp, rd: u8, rn: u8, offset: u32) -> DataAccess
     requires { rn < 15 }
     ensures { result ≡ ops.access_at s.now op rd rn offset }
 {
-    let address = s.low(rn).wrapping_add(offset);
-    DataAccess {
-        op,
-        rn,
-        rd,
-        to: Addressed {
-            address,
-            base: address,
-            written: false,
-        },
-    }
+    let to = sum(s, rn, offset);
+    DataAccess { op, rn, rd, to }
 }
 
 /// The access of Thumb's load of a word behind r15.
@@ -57,10 +94,7 @@ fn literal_access(s: &Registers, rd: u8, immed: u8) -> DataAccess
     ensures { result ≡ ops.literal_access s.now rd immed }
 {
     DataAccess {
-        op: TransferOp::WordOrByte {
-            load: true,
-            byte: false,
-        },
+        op: LDR,
         rn: 15,
         rd,
         to: addressed_literal(s, immed),
@@ -69,12 +103,25 @@ fn literal_access(s: &Registers, rd: u8, immed: u8) -> DataAccess
 
 /// The access of data that an operation makes, if it makes one.
 #[inline(always)]
+#[rattlefmt::skip]
 pub(crate) fn access_of(s: &Registers, op: &Op) -> Option<DataAccess>
     requires { HasOp op.now }
     ensures access { result ≡ ops.access_of s.now op.now }
     ensures fields { IfSome result HasAccess }
 {
     match *op {
+        Op::LdrNumber { rd, rn, offset } => Some(access_at(s, LDR, rd, rn, offset as u32)),
+        Op::LdrbNumber { rd, rn, offset } => Some(access_at(s, LDRB, rd, rn, offset as u32)),
+        Op::LdrhNumber { rd, rn, offset } => Some(access_at(s, LDRH, rd, rn, offset as u32)),
+        Op::StrNumber { rd, rn, offset } => Some(access_at(s, STR, rd, rn, offset as u32)),
+        Op::StrbNumber { rd, rn, offset } => Some(access_at(s, STRB, rd, rn, offset as u32)),
+        Op::StrhNumber { rd, rn, offset } => Some(access_at(s, STRH, rd, rn, offset as u32)),
+        Op::LdrRegister { rd, rn, rm } => Some(access_at(s, LDR, rd, rn, s.low(rm))),
+        Op::LdrbRegister { rd, rn, rm } => Some(access_at(s, LDRB, rd, rn, s.low(rm))),
+        Op::LdrhRegister { rd, rn, rm } => Some(access_at(s, LDRH, rd, rn, s.low(rm))),
+        Op::StrRegister { rd, rn, rm } => Some(access_at(s, STR, rd, rn, s.low(rm))),
+        Op::StrbRegister { rd, rn, rm } => Some(access_at(s, STRB, rd, rn, s.low(rm))),
+        Op::StrhRegister { rd, rn, rm } => Some(access_at(s, STRH, rd, rn, s.low(rm))),
         Op::AccessNumber { op, rd, rn, offset } => Some(access_at(s, op, rd, rn, offset as u32)),
         Op::AccessRegister { op, rd, rn, rm } => Some(access_at(s, op, rd, rn, s.low(rm))),
         Op::TransferNumber(it, offset) => Some(access_by(s, it, offset as u32)),

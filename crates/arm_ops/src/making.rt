@@ -13,7 +13,9 @@ ghost use Rattle.arm_ops.specs.Operations.{is_other, operation_of, HasOp, HasOpe
 use crate::operations::{Number, Op, Operation, ShiftedRegister, Transfer, TransferOp};
 use arm_core::{condition, equivalent, rotated_immediate};
 use arm_exec::{distance8, distance11, distance24};
-use arm_words::{CompareOp, Condition, DataOp, Instr, MoveOp, Offset, Operand, Shift, ShortOffset};
+use arm_words::{
+    CompareOp, Condition, DataOp, HalfOp, Instr, MoveOp, Offset, Operand, Shift, ShortOffset,
+};
 
 /// Whether a shift leaves a register as it is.
 fn is_plain(shift: Shift, amount: u8) -> bool
@@ -288,17 +290,44 @@ fn is_simple(it: Transfer) -> bool
     it.pre && it.up && !it.write_back && it.rn != 15 && it.rd != 15
 }
 
+/// A load or store at the sum of a register and a number, by what its access is.
+#[rattlefmt::skip]
+fn number_access(op: TransferOp, rd: u8, rn: u8, offset: u16) -> Op
+    ensures { result ≡ ops.number_access op rd rn offset }
+{
+    match op {
+        TransferOp::WordOrByte { load: true, byte: false } => Op::LdrNumber { rd, rn, offset },
+        TransferOp::WordOrByte { load: true, byte: true } => Op::LdrbNumber { rd, rn, offset },
+        TransferOp::WordOrByte { load: false, byte: false } => Op::StrNumber { rd, rn, offset },
+        TransferOp::WordOrByte { load: false, byte: true } => Op::StrbNumber { rd, rn, offset },
+        TransferOp::HalfOrSigned { op: HalfOp::Ldrh } => Op::LdrhNumber { rd, rn, offset },
+        TransferOp::HalfOrSigned { op: HalfOp::Strh } => Op::StrhNumber { rd, rn, offset },
+        _ => Op::AccessNumber { op, rd, rn, offset },
+    }
+}
+
+/// The same at the sum of two registers.
+#[rattlefmt::skip]
+fn register_access(op: TransferOp, rd: u8, rn: u8, rm: u8) -> Op
+    ensures { result ≡ ops.register_access op rd rn rm }
+{
+    match op {
+        TransferOp::WordOrByte { load: true, byte: false } => Op::LdrRegister { rd, rn, rm },
+        TransferOp::WordOrByte { load: true, byte: true } => Op::LdrbRegister { rd, rn, rm },
+        TransferOp::WordOrByte { load: false, byte: false } => Op::StrRegister { rd, rn, rm },
+        TransferOp::WordOrByte { load: false, byte: true } => Op::StrbRegister { rd, rn, rm },
+        TransferOp::HalfOrSigned { op: HalfOp::Ldrh } => Op::LdrhRegister { rd, rn, rm },
+        TransferOp::HalfOrSigned { op: HalfOp::Strh } => Op::StrhRegister { rd, rn, rm },
+        _ => Op::AccessRegister { op, rd, rn, rm },
+    }
+}
+
 /// A load or store with a number as its offset.
 fn number_transfer(it: Transfer, offset: u16) -> Op
     ensures { result ≡ ops.number_transfer it offset }
 {
     if is_simple(it) {
-        return Op::AccessNumber {
-            op: it.op,
-            rd: it.rd,
-            rn: it.rn,
-            offset,
-        };
+        return number_access(it.op, it.rd, it.rn, offset);
     }
     Op::TransferNumber(it, offset)
 }
@@ -308,12 +337,7 @@ fn register_transfer(it: Transfer, rm: u8) -> Op
     ensures { result ≡ ops.register_transfer it rm }
 {
     if is_simple(it) && rm != 15 {
-        return Op::AccessRegister {
-            op: it.op,
-            rd: it.rd,
-            rn: it.rn,
-            rm,
-        };
+        return register_access(it.op, it.rd, it.rn, rm);
     }
     Op::TransferRegister(it, rm)
 }

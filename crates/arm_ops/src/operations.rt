@@ -312,14 +312,86 @@ pub enum Op {
         link: bool,
         far: u32,
     },
-    /// A load or store at a register and a number. The base stays.
+    /// LDR at a register and a number. The base stays.
+    LdrNumber {
+        rd: u8,
+        rn: u8,
+        offset: u16,
+    },
+    /// LDRB at a register and a number. The base stays.
+    LdrbNumber {
+        rd: u8,
+        rn: u8,
+        offset: u16,
+    },
+    /// LDRH at a register and a number. The base stays.
+    LdrhNumber {
+        rd: u8,
+        rn: u8,
+        offset: u16,
+    },
+    /// STR at a register and a number. The base stays.
+    StrNumber {
+        rd: u8,
+        rn: u8,
+        offset: u16,
+    },
+    /// STRB at a register and a number. The base stays.
+    StrbNumber {
+        rd: u8,
+        rn: u8,
+        offset: u16,
+    },
+    /// STRH at a register and a number. The base stays.
+    StrhNumber {
+        rd: u8,
+        rn: u8,
+        offset: u16,
+    },
+    /// LDR at two registers. The base stays.
+    LdrRegister {
+        rd: u8,
+        rn: u8,
+        rm: u8,
+    },
+    /// LDRB at two registers. The base stays.
+    LdrbRegister {
+        rd: u8,
+        rn: u8,
+        rm: u8,
+    },
+    /// LDRH at two registers. The base stays.
+    LdrhRegister {
+        rd: u8,
+        rn: u8,
+        rm: u8,
+    },
+    /// STR at two registers. The base stays.
+    StrRegister {
+        rd: u8,
+        rn: u8,
+        rm: u8,
+    },
+    /// STRB at two registers. The base stays.
+    StrbRegister {
+        rd: u8,
+        rn: u8,
+        rm: u8,
+    },
+    /// STRH at two registers. The base stays.
+    StrhRegister {
+        rd: u8,
+        rn: u8,
+        rm: u8,
+    },
+    /// A load of a signed byte or half at a register and a number. The base stays.
     AccessNumber {
         op: TransferOp,
         rd: u8,
         rn: u8,
         offset: u16,
     },
-    /// A load or store at two registers. The base stays.
+    /// A load of a signed byte or half at two registers. The base stays.
     AccessRegister {
         op: TransferOp,
         rd: u8,

@@ -11,7 +11,7 @@ ghost use Rattle.arm_ops.specs.Operations.{is_other, HasAccess, HasOperation};
 
 use crate::accesses::{access_of, bytes_of, make};
 use crate::operations::{DataAccess, Op, Operation};
-use crate::running::{Anywhere, compute_on, takes_effect};
+use crate::running::{Anywhere, compute, takes_effect};
 use arm_core::{Bus, Registers, Stepped, Touch};
 use arm_exec::skip;
 use ds_base::Arch;
@@ -76,7 +76,7 @@ fn run_still<B: Bus>(arch: Arch, s: &mut Registers, bus: &mut B, operation: &Ope
     if !takes_effect(operation.cond, s) {
         return skip(arch, s);
     }
-    compute_on::<B, Anywhere>(arch, s, bus, &operation.op)
+    compute::<B, Anywhere>(arch, s, bus, &operation.op)
 }
 
 /// Runs an operation over a bus, wherever its access is, which was asked for before. The result is the cost, or the stop of a write that the bus

@@ -1,6 +1,6 @@
 //! Operations that are run.
 
-ghost use Rattle.std.specs.Prelude.{◌≡◌, ◌<◌, ℕ, Bool, [], false, None};
+ghost use Rattle.std.specs.Prelude.{◌≡◌, ◌<◌, [], false, None};
 ghost use Rattle.arm_words.specs.Fields.{HasFields};
 ghost use Rattle.arm_core.specs.Conditions as conditions;
 ghost use Rattle.arm_core.specs.Effects.{carried_out, cost_of};
@@ -11,14 +11,15 @@ ghost use Rattle.arm_ops.specs.Meanings.{access_meaning, is_ram, op_meaning, ope
 ghost use Rattle.arm_ops.specs.Inside.{IsPaid};
 ghost use Rattle.arm_ops.specs.Operations.{is_other, loads, HasAccess, HasOp, HasOperation};
 
-use crate::accesses::access_of;
+use crate::accesses::{access_of, sum};
 use crate::computing::{compare_by, data_by, data_shifted_by, kept, move_by, shifted};
+use crate::near::{Near, load_byte, load_half, load_word, store};
 use crate::operands::{LowRegister, LowShifted};
 use crate::operations::{DataAccess, Op, Operation, TransferOp};
-use arm_core::{Bus, Registers, Stepped, holds};
+use arm_core::{Bus, Registers, Stepped, addressed_literal, holds};
 use arm_exec::{act_processing, branch, half_transfer_at, multiply, skip, transfer_at};
 use arm_words::{CompareOp, Condition, DataOp, HalfOp, Instr, Shift};
-use ds_base::Arch;
+use ds_base::{Arch, Width};
 
 /// Whether an address is of RAM, 2000000h to 3FFFFFFh (GBATEK, "DS Memory Map").
 #[inline(always)]
@@ -26,16 +27,6 @@ fn is_ram(at: u32) -> bool
     ensures { result ≡ is_ram at }
 {
     at >> 25 == 1
-}
-
-/// Where loads are made past RAM, for whoever runs operations.
-pub trait Near {
-    /// Whether a load from an address is.
-    ghost near: { ℕ → Bool };
-
-    /// Whether a load from an address is.
-    fn is_near(at: u32) -> bool
-        ensures { result ≡ near at };
 }
 
 /// Whether a kind of access loads.
@@ -73,25 +64,46 @@ fn plain(arch: Arch, instr: &Instr, s: &mut Registers) -> u32
     act_processing(arch, 0, s, instr)
 }
 
-/// Who runs operations where each access must be near. Each of the two has a copy of `compute` of its own, which stands in line in its loop over
-/// steps.
+/// Who makes accesses that must be near. It has a copy of them of its own, which stands in line in its loop over steps.
 pub(crate) enum NearAlone {}
 
-/// Who runs them wherever each access is.
+/// Who runs operations wherever each access is, and tries none at once.
 pub(crate) enum Anywhere {}
 
-/// An operation that makes no access; the result is its cost, and 0 where it makes one or isn't run here. The bus and the last type say who calls.
+impl<B: Bus> Near<B> for Anywhere {
+    ghost near = { λ at. false };
+
+    #[inline(always)]
+    fn is_near(_at: u32) -> bool {
+        false
+    }
+
+    #[inline(always)]
+    fn read_near(_bus: &mut B, _at: u32, _width: Width) -> Option<u32> {
+        None
+    }
+
+    #[inline(always)]
+    fn write_near(_bus: &mut B, _at: u32, _width: Width, _value: u32) -> bool {
+        false
+    }
+}
+
+/// An operation that makes no access, or one that is tried at once and finds its memory there; the result is its cost, and 0 where it is neither or
+/// isn't run here. What makes no access, which is most, and what is tried stand in one match, so that one jump finds it.
 #[inline(always)]
 #[rattlefmt::skip]
 #[tactic(auto, using(crate::proofs::Laws::costs, crate::proofs::Laws::not_none))]
-fn compute<B: Bus, Caller>(arch: Arch, s: &mut Registers, op: &Op) -> u32
+pub(crate) fn compute<B: Bus, N: Near<B>>(arch: Arch, s: &mut Registers, bus: &mut B, op: &Op) -> u32
     requires { HasOp op.now }
-    ensures none { result ≡ 0 → s.new ≡ s.old }
     ensures all { ops.access_of s.old op.now ≡ None → is_other op.now ≡ false → 0 < result }
+    ensures none { result ≡ 0 → (s.new ≡ s.old) × (B.state bus.new ≡ B.state bus.old) }
     ensures known { 0 < result → is_other op.now ≡ false }
-    ensures registers { 0 < result → s.new ≡ (op_meaning arch s.old op.now).after [] }
-    ensures cost { 0 < result → result ≡ cost_of arch (op_meaning arch s.old op.now) }
-    ensures accesses { 0 < result → (op_meaning arch s.old op.now).accesses ≡ [] }
+    ensures registers { 0 < result → s.new ≡ (carried_out B.memory arch s.old (B.state bus.old) (op_meaning arch s.old op.now)).registers }
+    ensures state { 0 < result → B.state bus.new ≡ (carried_out B.memory arch s.old (B.state bus.old) (op_meaning arch s.old op.now)).state }
+    ensures stepped { 0 < result → (carried_out B.memory arch s.old (B.state bus.old) (op_meaning arch s.old op.now)).stepped ≡ Cost result }
+    ensures near { 0 < result → IsNear N.near (op_meaning arch s.old op.now).accesses }
+    ensures same { B.identity bus.new ≡ B.identity bus.old }
 {
     match *op {
         Op::AndNumber { rd, rn, value } => data_by(arch, s, DataOp::And, false, rd, rn, kept(value)),
@@ -136,31 +148,27 @@ fn compute<B: Bus, Caller>(arch: Arch, s: &mut Registers, op: &Op) -> u32
         Op::Mla { rd, rm, rs, rn } => multiply(arch, s, false, rd, rm, rs, s.get(rn)),
         Op::Branch { link, far } => branch(arch, s, link, far),
         Op::Plain(ref instr) => plain(arch, instr, s),
-        Op::Other
-        | Op::AccessNumber { .. }
+        Op::LdrNumber { rd, rn, offset } => load_word::<B, N>(arch, s, bus, rn, rd, sum(s, rn, offset as u32)),
+        Op::LdrRegister { rd, rn, rm } => load_word::<B, N>(arch, s, bus, rn, rd, sum(s, rn, s.low(rm))),
+        Op::LdrbNumber { rd, rn, offset } => load_byte::<B, N>(arch, s, bus, rn, rd, sum(s, rn, offset as u32)),
+        Op::LdrbRegister { rd, rn, rm } => load_byte::<B, N>(arch, s, bus, rn, rd, sum(s, rn, s.low(rm))),
+        Op::LdrhNumber { rd, rn, offset } => load_half::<B, N>(arch, s, bus, rn, rd, sum(s, rn, offset as u32)),
+        Op::LdrhRegister { rd, rn, rm } => load_half::<B, N>(arch, s, bus, rn, rd, sum(s, rn, s.low(rm))),
+        Op::StrNumber { rd, rn, offset } => store::<B, N>(arch, s, bus, rn, rd, sum(s, rn, offset as u32), Width::Word),
+        Op::StrRegister { rd, rn, rm } => store::<B, N>(arch, s, bus, rn, rd, sum(s, rn, s.low(rm)), Width::Word),
+        Op::StrbNumber { rd, rn, offset } => store::<B, N>(arch, s, bus, rn, rd, sum(s, rn, offset as u32), Width::Byte),
+        Op::StrbRegister { rd, rn, rm } => store::<B, N>(arch, s, bus, rn, rd, sum(s, rn, s.low(rm)), Width::Byte),
+        Op::StrhNumber { rd, rn, offset } => store::<B, N>(arch, s, bus, rn, rd, sum(s, rn, offset as u32), Width::Half),
+        Op::StrhRegister { rd, rn, rm } => store::<B, N>(arch, s, bus, rn, rd, sum(s, rn, s.low(rm)), Width::Half),
+        Op::Literal { rd, immed } if rd < 15 => load_word::<B, N>(arch, s, bus, 15, rd, addressed_literal(s, immed)),
+        Op::Other => 0,
+        Op::AccessNumber { .. }
         | Op::AccessRegister { .. }
         | Op::TransferNumber(..)
         | Op::TransferRegister(..)
         | Op::TransferShifted(..)
         | Op::Literal { .. } => 0,
     }
-}
-
-/// An operation that makes no access, over a bus; the result is its cost, and 0 where it makes one or isn't run here.
-#[inline(always)]
-pub(crate) fn compute_on<B: Bus, Caller>(arch: Arch, s: &mut Registers, bus: &mut B, op: &Op) -> u32
-    requires { HasOp op.now }
-    ensures all { ops.access_of s.old op.now ≡ None → is_other op.now ≡ false → 0 < result }
-    ensures none { result ≡ 0 → (s.new ≡ s.old) × (B.state bus.new ≡ B.state bus.old) }
-    ensures known { 0 < result → is_other op.now ≡ false }
-    ensures registers { 0 < result → s.new ≡ (carried_out B.memory arch s.old (B.state bus.old) (op_meaning arch s.old op.now)).registers }
-    ensures state { 0 < result → B.state bus.new ≡ (carried_out B.memory arch s.old (B.state bus.old) (op_meaning arch s.old op.now)).state }
-    ensures stepped { 0 < result → (carried_out B.memory arch s.old (B.state bus.old) (op_meaning arch s.old op.now)).stepped ≡ Cost result }
-    ensures near { (near : ℕ → Bool) → 0 < result → IsNear near (op_meaning arch s.old op.now).accesses }
-    ensures same { B.identity bus.new ≡ B.identity bus.old }
-{
-    let _ = bus;
-    compute::<B, Caller>(arch, s, op)
 }
 
 /// The cost of a step that was taken.
@@ -178,7 +186,7 @@ fn paid(stepped: Stepped) -> u32
 
 /// Makes an access, where it is of RAM, or a load that is near too; the result is its cost, and 0 where it is neither.
 #[inline(always)]
-fn make_near<B: Bus, N: Near>(arch: Arch, s: &mut Registers, bus: &mut B, it: DataAccess) -> u32
+fn make_near<B: Bus, N: Near<B>>(arch: Arch, s: &mut Registers, bus: &mut B, it: DataAccess) -> u32
     requires fields { HasAccess it }
     requires ram { RefusesNoneInRam B.memory }
     ensures none { result ≡ 0 → (s.new ≡ s.old) × (B.state bus.new ≡ B.state bus.old) }
@@ -202,11 +210,11 @@ fn make_near<B: Bus, N: Near>(arch: Arch, s: &mut Registers, bus: &mut B, it: Da
     }
 }
 
-/// An operation that takes effect, where it is run here; the result is its cost, and 0 where it isn't. What makes no access, which is most, is looked
-/// for first, so that one jump finds it.
+/// An operation that takes effect, where it is run here; the result is its cost, and 0 where it isn't. An access that found no memory at once is made
+/// here.
 #[inline(always)]
 #[tactic(auto, using(crate::proofs::Laws::means_access))]
-fn run_op<B: Bus, N: Near>(arch: Arch, s: &mut Registers, bus: &mut B, op: &Op) -> u32
+fn run_op<B: Bus, N: Near<B>>(arch: Arch, s: &mut Registers, bus: &mut B, op: &Op) -> u32
     requires fields { HasOp op.now }
     requires ram { RefusesNoneInRam B.memory }
     ensures none { result ≡ 0 → (s.new ≡ s.old) × (B.state bus.new ≡ B.state bus.old) }
@@ -217,7 +225,7 @@ fn run_op<B: Bus, N: Near>(arch: Arch, s: &mut Registers, bus: &mut B, op: &Op) 
     ensures near { 0 < result → IsNear N.near (op_meaning arch s.old op.now).accesses }
     ensures same { B.identity bus.new ≡ B.identity bus.old }
 {
-    let clocks = compute_on::<B, NearAlone>(arch, s, bus, op);
+    let clocks = compute::<B, N>(arch, s, bus, op);
     if clocks != 0 {
         return clocks;
     }
@@ -230,7 +238,7 @@ fn run_op<B: Bus, N: Near>(arch: Arch, s: &mut Registers, bus: &mut B, op: &Op) 
 /// Runs an operation over a bus that refuses no write of RAM, where it is one that is run here: another instruction isn't, nor an access that is
 /// neither of RAM nor a load that is near. The result is its cost in the processor's own clocks; 0 where it isn't run, and then nothing is changed.
 #[inline(always)]
-pub fn run<B: Bus, N: Near>(
+pub fn run<B: Bus, N: Near<B>>(
     arch: Arch,
     s: &mut Registers,
     bus: &mut B,

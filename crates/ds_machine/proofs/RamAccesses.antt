@@ -10,7 +10,7 @@ use Rattle.arm_ops.specs.Meanings.{RefusesNoneInRam, is_ram}
 use Rattle.cp15_tcm.specs.TightlyCoupled.{tcm_of}
 use Rattle.cp15_tcm.specs.declared.answers.Tcm.{Tcm}
 use Rattle.cp15_tcm.specs.declared.answers.Tcm.TheVariants as tcm
-use Rattle.ds_places.specs.AddressTables.{Cells, Empty, place_at, place_of, shared_for_nine, shared_for_seven}
+use Rattle.ds_places.specs.AddressTables.{Cells, Empty, is_of_region, main_region, own_region, place_at, place_of, shared_for_nine, shared_for_seven}
 use Rattle.ds_places.specs.declared.kinds.Place.{Place}
 use Rattle.ds_places.specs.declared.kinds.Place.TheVariants.{Cell, Banks, Port, Rom, Nothing}
 use Rattle.ds_places.proofs.Rows.{in_row, past_row}
@@ -69,6 +69,16 @@ ram_cells Seven w at low high = rw (past_row 0x00000000 0x00003FFF at (omega (ar
 -- an address of them
 pub ram_bounds : (at : ℕ) → is_ram at ≡ true → (0x02000000 ≤ at) × (at < 0x04000000)
 ram_bounds at h = grind arith
+
+-- main memory and ARM7's own work RAM are
+pub main_is_ram : (at : ℕ) → 0x02000000 ≤ at → at ≤ 0x02FFFFFF → is_ram at ≡ true
+main_is_ram at low high = grind (arith, low, high)
+
+pub main_region_is_ram : (at : ℕ) → is_of_region main_region at ≡ true → is_ram at ≡ true
+main_region_is_ram at h = grind arith
+
+pub own_region_is_ram : (at : ℕ) → is_of_region own_region at ≡ true → is_ram at ≡ true
+own_region_is_ram at h = grind arith
 
 -- ---- no access of them changes a unit
 

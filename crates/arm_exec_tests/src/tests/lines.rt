@@ -231,13 +231,28 @@ fn run_op(
 /// Nothing is near but RAM.
 pub enum RamAlone {}
 
-impl Near for RamAlone {
+impl Near<FlatBus> for RamAlone {
     ghost use Rattle.std.specs.Prelude.{false};
 
     ghost near = { λ at. false };
 
     fn is_near(_at: u32) -> bool {
         false
+    }
+
+    fn read_near(bus: &mut FlatBus, at: u32, width: Width) -> Option<u32> {
+        if at >> 25 != 1 {
+            return None;
+        }
+        Some(bus.read(at, width))
+    }
+
+    fn write_near(bus: &mut FlatBus, at: u32, width: Width, value: u32) -> bool {
+        if at >> 25 != 1 {
+            return false;
+        }
+        let _ = bus.write(at, width, value);
+        true
     }
 }
 

@@ -3,19 +3,27 @@
 use arm_core::{FlatBus, Registers};
 use arm_ops::{Near, operation, run};
 use arm_words::decode_arm;
-use ds_base::Arch;
+use ds_base::{Arch, Width};
 use std::alloc::AllocError;
 
 /// Where loads are made: from 4000000h on.
 enum FromPorts {}
 
-impl Near for FromPorts {
+impl Near<FlatBus> for FromPorts {
     ghost use Rattle.std.specs.Prelude.{nat_le};
 
     ghost near = { λ at. nat_le 0x04000000 at };
 
     fn is_near(at: u32) -> bool {
         at >= 0x0400_0000
+    }
+
+    fn read_near(_bus: &mut FlatBus, _at: u32, _width: Width) -> Option<u32> {
+        None
+    }
+
+    fn write_near(_bus: &mut FlatBus, _at: u32, _width: Width, _value: u32) -> bool {
+        false
     }
 }
 

@@ -4,11 +4,12 @@ use super::forms::Form;
 use super::forms::Form::{
     AccessNumber, AccessRegister, AddNumber, AddRegister, AddsNumber, AddsRegister, AndNumber,
     AndRegister, AndsRegister, BicNumber, BicRegister, BicsRegister, Branch, CmnNumber, CmpNumber,
-    CmpRegister, DataShifted, DataShiftedBy, EorNumber, EorRegister, EorsRegister, Literal, Mla,
-    MovAsr, MovLsl, MovLsr, MovNumber, MovRor, MovsAsr, MovsLsl, MovsLsr, MovsNumber, Mul,
-    OrrNumber, OrrRegister, OrrsRegister, Plain, RsbNumber, RsbRegister, SubNumber, SubRegister,
-    SubsNumber, SubsRegister, TransferNumber, TransferRegister, TransferShifted, TstNumber,
-    TstRegister,
+    CmpRegister, DataShifted, DataShiftedBy, EorNumber, EorRegister, EorsRegister, LdrNumber,
+    LdrRegister, LdrbNumber, LdrbRegister, LdrhNumber, LdrhRegister, Literal, Mla, MovAsr, MovLsl,
+    MovLsr, MovNumber, MovRor, MovsAsr, MovsLsl, MovsLsr, MovsNumber, Mul, OrrNumber, OrrRegister,
+    OrrsRegister, Plain, RsbNumber, RsbRegister, StrNumber, StrRegister, StrbNumber, StrbRegister,
+    StrhNumber, StrhRegister, SubNumber, SubRegister, SubsNumber, SubsRegister, TransferNumber,
+    TransferRegister, TransferShifted, TstNumber, TstRegister,
 };
 use super::lines::Line::{
     Arm, At, Both, Flags, Is, Mem, Near, Nzcv, Other, Pc, R, Thumb, To, To7, To9,
@@ -366,21 +367,21 @@ fn products_branches_and_accesses_are_operations_of_their_forms(rt: HostRuntime)
 
         // loads and stores at the sum of a register and a number; the word at 2000060h is 87654321h, and the next is 9
         R(14, 0x200_0060),
-            Arm(0xE59E_0004), Is(AccessNumber), To(0, 9), Near, Both(3, 2), // ldr r0, [r14, #0x4]
+            Arm(0xE59E_0004), Is(LdrNumber), To(0, 9), Near, Both(3, 2), // ldr r0, [r14, #0x4]
         R(1, 0x200_0060), R(14, 7),
-            Arm(0xE591_E000), Is(AccessNumber), To(LR, 0x8765_4321), Near, Both(3, 2), // ldr r14, [r1]
+            Arm(0xE591_E000), Is(LdrNumber), To(LR, 0x8765_4321), Near, Both(3, 2), // ldr r14, [r1]
         R(14, 0x200_0060),
-            Arm(0xE59E_E001), Is(AccessNumber), To(LR, 0x2187_6543), Near, Both(3, 2), // ldr r14, [r14, #0x1]
+            Arm(0xE59E_E001), Is(LdrNumber), To(LR, 0x2187_6543), Near, Both(3, 2), // ldr r14, [r14, #0x1]
         R(14, 0x200_0060),
-            Arm(0xE5DE_0003), Is(AccessNumber), To(0, 0x87), Near, Both(3, 2), // ldrb r0, [r14, #0x3]
+            Arm(0xE5DE_0003), Is(LdrbNumber), To(0, 0x87), Near, Both(3, 2), // ldrb r0, [r14, #0x3]
         R(1, 0x200_0060), R(14, 0x1234_5678),
-            Arm(0xE581_E007), Is(AccessNumber), Mem(0x200_0064, 0x1234_5678), Near, Both(2, 1), // str r14, [r1, #0x7]
+            Arm(0xE581_E007), Is(StrNumber), Mem(0x200_0064, 0x1234_5678), Near, Both(2, 1), // str r14, [r1, #0x7]
         R(1, 0x200_0060), R(14, 0x1234_5678),
-            Arm(0xE5C1_E001), Is(AccessNumber), Mem(0x200_0060, 0x8765_7821), Near, Both(2, 1), // strb r14, [r1, #0x1]
+            Arm(0xE5C1_E001), Is(StrbNumber), Mem(0x200_0060, 0x8765_7821), Near, Both(2, 1), // strb r14, [r1, #0x1]
         R(14, 0x200_0060),
-            Arm(0xE1DE_00B2), Is(AccessNumber), To(0, 0x8765), Near, Both(3, 2), // ldrh r0, [r14, #0x2]
+            Arm(0xE1DE_00B2), Is(LdrhNumber), To(0, 0x8765), Near, Both(3, 2), // ldrh r0, [r14, #0x2]
         R(14, 0x200_0060),
-            Arm(0xE1DE_00B1), Is(AccessNumber), To7(0, 0x2100_0043), To9(0, 0x4321), Near, Both(3, 2), // ldrh r0, [r14, #0x1]
+            Arm(0xE1DE_00B1), Is(LdrhNumber), To7(0, 0x2100_0043), To9(0, 0x4321), Near, Both(3, 2), // ldrh r0, [r14, #0x1]
         R(14, 0x200_0060),
             Arm(0xE1DE_00D3), Is(AccessNumber), To(0, 0xFFFF_FF87), Near, Both(3, 2), // ldrsb r0, [r14, #0x3]
         R(14, 0x200_0060),
@@ -388,26 +389,26 @@ fn products_branches_and_accesses_are_operations_of_their_forms(rt: HostRuntime)
         R(14, 0x200_0060),
             Arm(0xE1DE_00F3), Is(AccessNumber), To7(0, 0xFFFF_FF87), To9(0, 0xFFFF_8765), Near, Both(3, 2), // ldrsh r0, [r14, #0x3]
         R(1, 0x200_0060), R(14, 0x1234_5678),
-            Arm(0xE1C1_E0B3), Is(AccessNumber), Mem(0x200_0060, 0x5678_4321), Near, Both(2, 1), // strh r14, [r1, #0x3]
+            Arm(0xE1C1_E0B3), Is(StrhNumber), Mem(0x200_0060, 0x5678_4321), Near, Both(2, 1), // strh r14, [r1, #0x3]
         R(14, 0x200_0060),
-            Arm(0x159E_0004), Is(AccessNumber), To(0, 9), Near, Both(3, 2), // ldrne r0, [r14, #0x4]
+            Arm(0x159E_0004), Is(LdrNumber), To(0, 9), Near, Both(3, 2), // ldrne r0, [r14, #0x4]
         Nzcv(0b0100), R(14, 0x200_0060),
-            Arm(0x159E_0004), Is(AccessNumber), Near, Both(1, 1), // ldrne r0, [r14, #0x4]
+            Arm(0x159E_0004), Is(LdrNumber), Near, Both(1, 1), // ldrne r0, [r14, #0x4]
         // and of two registers
         R(2, 4), R(14, 0x200_0060),
-            Arm(0xE79E_0002), Is(AccessRegister), To(0, 9), Near, Both(3, 2), // ldr r0, [r14, r2]
+            Arm(0xE79E_0002), Is(LdrRegister), To(0, 9), Near, Both(3, 2), // ldr r0, [r14, r2]
         R(1, 0x200_0060), R(14, 4),
-            Arm(0xE791_000E), Is(AccessRegister), To(0, 9), Near, Both(3, 2), // ldr r0, [r1, r14]
+            Arm(0xE791_000E), Is(LdrRegister), To(0, 9), Near, Both(3, 2), // ldr r0, [r1, r14]
         R(1, 0x200_0060), R(2, 3), R(14, 7),
-            Arm(0xE7D1_E002), Is(AccessRegister), To(LR, 0x87), Near, Both(3, 2), // ldrb r14, [r1, r2]
+            Arm(0xE7D1_E002), Is(LdrbRegister), To(LR, 0x87), Near, Both(3, 2), // ldrb r14, [r1, r2]
         R(1, 0x200_0060), R(2, 4), R(14, 0x1234_5678),
-            Arm(0xE781_E002), Is(AccessRegister), Mem(0x200_0064, 0x1234_5678), Near, Both(2, 1), // str r14, [r1, r2]
+            Arm(0xE781_E002), Is(StrRegister), Mem(0x200_0064, 0x1234_5678), Near, Both(2, 1), // str r14, [r1, r2]
         R(0, 0x78), R(1, 2), R(14, 0x200_0060),
-            Arm(0xE7CE_0001), Is(AccessRegister), Mem(0x200_0060, 0x8778_4321), Near, Both(2, 1), // strb r0, [r14, r1]
+            Arm(0xE7CE_0001), Is(StrbRegister), Mem(0x200_0060, 0x8778_4321), Near, Both(2, 1), // strb r0, [r14, r1]
         R(1, 0x200_0060), R(14, 2),
-            Arm(0xE191_00BE), Is(AccessRegister), To(0, 0x8765), Near, Both(3, 2), // ldrh r0, [r1, r14]
+            Arm(0xE191_00BE), Is(LdrhRegister), To(0, 0x8765), Near, Both(3, 2), // ldrh r0, [r1, r14]
         R(0, 0x5678), R(2, 2), R(14, 0x200_0060),
-            Arm(0xE18E_00B2), Is(AccessRegister), Mem(0x200_0060, 0x5678_4321), Near, Both(2, 1), // strh r0, [r14, r2]
+            Arm(0xE18E_00B2), Is(StrhRegister), Mem(0x200_0060, 0x5678_4321), Near, Both(2, 1), // strh r0, [r14, r2]
         R(1, 0x200_0060), R(2, 3), R(14, 7),
             Arm(0xE191_E0D2), Is(AccessRegister), To(LR, 0xFFFF_FF87), Near, Both(3, 2), // ldrsb r14, [r1, r2]
         R(1, 0x200_0060), R(2, 2), R(14, 7),

@@ -1,8 +1,8 @@
 //! A cache of words, or of halves, of one version of the architecture.
 
-ghost use Rattle.std.specs.Prelude.{◌≡◌, ◌<◌, ◌%◌, IfOk, IfSome, slice_set, slice_index};
+ghost use Rattle.std.specs.Prelude.{◌≡◌, ◌<◌, ◌%◌, ◌^◌, IfOk, IfSome, slice_set, slice_index};
 ghost use Rattle.std.specs.Coded.{Coded-set};
-ghost use Rattle.decode_cache.specs.Kept.{kept_at_start};
+ghost use Rattle.decode_cache.specs.Kept.{kept_at_start, places_of};
 ghost use Rattle.decode_cache.specs.Known.{arch_of, known};
 ghost use Rattle.arm_ops.specs.Operations.{operation_of};
 ghost use Rattle.arm_words.specs.Fields.{HasFields};
@@ -13,8 +13,15 @@ use ds_base::Arch;
 use std::alloc::{AllocError, Global};
 use std::marker::Model;
 
-/// How many numbers are kept.
-const PLACES: usize = 16_384;
+/// How many numbers of so many bits are kept: as many as 64 KiB of code have, whether words or halves. (Our choice.)
+#[inline(always)]
+const fn places<const BITS: u32>() -> usize
+    ensures value { result ≡ places_of BITS }
+    ensures some { 0 < result }
+    ensures few { result < 2 ^ 16 }
+{
+    if BITS == 16 { 32_768 } else { 16_384 }
+}
 
 /// A number with its instruction, or none, as an operation. The filler, always 0, makes it 32 bytes long, so that finding its place is a shift.
 #[derive(Clone, Copy)]
@@ -34,21 +41,22 @@ pub struct DecodeCache<const VERSION: u32, const BITS: u32> {
 
 impl<const VERSION: u32, const BITS: u32> Model for DecodeCache<VERSION, BITS> {
     ghost use Rattle.std.specs.Prelude.{◌≡◌, ℕ, List, length, map};
+    ghost use Rattle.decode_cache.specs.Kept.{places_of};
 
     ghost Value = { List ℕ };
 
     ghost view = { λ m. map (λ e. e.number) m.entries.items };
 
-    ghost invariant = { λ m. length m.entries.items ≡ 16384 };
+    ghost invariant = { λ m. length m.entries.items ≡ places_of BITS };
 }
 
 /// Where a number is kept that was found at a place of the code, counted in words or in halves: what lies side by side is kept side by side. (Our
 /// choice.)
 #[inline(always)]
-fn place(at: u32) -> usize
-    ensures { result ≡ at % 16384 }
+fn place<const BITS: u32>(at: u32) -> usize
+    ensures { result ≡ at % places_of BITS }
 {
-    (at % PLACES as u32) as usize
+    (at % places::<BITS>() as u32) as usize
 }
 
 /// The architecture of a version.
@@ -100,29 +108,29 @@ impl<const VERSION: u32, const BITS: u32> CacheEntry<VERSION, BITS> {
 impl<const VERSION: u32, const BITS: u32> DecodeCache<VERSION, BITS> {
     /// A cache that keeps the number 0 at each place. It refuses only for want of memory.
     pub fn new(alloc: Global) -> Result<DecodeCache<VERSION, BITS>, AllocError>
-        ensures { IfOk result (λ cache. cache ≡ kept_at_start) }
+        ensures { IfOk result (λ cache. cache ≡ kept_at_start BITS) }
     {
         Ok(DecodeCache {
-            entries: vec![in alloc; made::<VERSION, BITS>(0); PLACES]?,
+            entries: vec![in alloc; made::<VERSION, BITS>(0); places::<BITS>()]?,
         })
     }
 
     /// Keeps a number that was found at a place of the code.
     #[inline(always)]
     pub fn learn(&mut self, at: u32, number: u32)
-        ensures keeps { self.new ≡ slice_set self.old (at % 16384) number }
-        ensures kept { slice_index self.new (at % 16384) ≡ number }
+        ensures keeps { self.new ≡ slice_set self.old (at % places_of BITS) number }
+        ensures kept { slice_index self.new (at % places_of BITS) ≡ number }
     {
-        let entry = &mut self.entries[place(at)];
+        let entry = &mut self.entries[place::<BITS>(at)];
         entry.learn(number);
     }
 
     /// The instruction of a number that is kept for a place of the code, or none, as an operation.
     #[inline(always)]
     pub fn operation(&self, at: u32, number: u32) -> &Operation
-        requires { slice_index self.now (at % 16384) ≡ number }
+        requires { slice_index self.now (at % places_of BITS) ≡ number }
         ensures { result.now ≡ operation_of (known VERSION BITS number) }
     {
-        &self.entries[place(at)].operation
+        &self.entries[place::<BITS>(at)].operation
     }
 }

@@ -5,6 +5,7 @@ ghost use Rattle.ds_base.specs.declared.processors.Proc.TheVariants.{Nine, Seven
 ghost use Rattle.ds_base.specs.declared.ticks.Due.{Due};
 ghost use Rattle.ds_machine.specs.Acting.{acting_dues};
 ghost use Rattle.ds_machine.specs.FenceTicks.{channel_dues, fence_dues, timer_dues};
+ghost use Rattle.ds_machine.specs.NextEvents.{IsNextEvent};
 ghost use Rattle.ds_machine.specs.Private as private;
 ghost use Rattle.ds_machine.specs.Private.{IsAhead, IsFence};
 ghost use Rattle.ds_machine.specs.TurnSteps.{BelongsToTurn, HasLimit};
@@ -15,6 +16,7 @@ ghost use Rattle.ds_runs.specs.Order.{due_with_rank, first_from};
 ghost use Rattle.ds_runs.specs.Runs.{IsLeast};
 ghost use Rattle.video2d.specs.Scans.{scan_due_tick};
 
+use crate::next_events::NextEvent;
 use crate::parts::Parts;
 use ds_base::{Due, Proc, Tick};
 use ds_runs::{Actor, earlier, earlier_than, entry, later_than, ranks};
@@ -107,21 +109,24 @@ impl Parts {
     }
 
     /// Whether a processor's next step may be taken before its turn.
-    fn is_ahead(&self, proc: Proc, tick: Tick) -> bool
-        requires { processor_due self.now proc ≡ Some tick }
+    fn is_ahead(&self, next_event: NextEvent, proc: Proc, tick: Tick) -> bool
+        requires due { processor_due self.now proc ≡ Some tick }
+        requires next_event { IsNextEvent next_event self.now }
         ensures { (result ≡ true) ↔ IsAhead self.now proc }
     {
-        tick.0 < self.fence(proc).0 && self.is_step_private(proc)
+        self.is_below_fence(next_event, proc, tick) && self.is_step_private(proc)
     }
 
     /// Whether a processor's next step belongs to its turn with a limit: it is due below the limit, and is the least acting step, or may be taken
     /// before its turn.
-    pub fn belongs(&self, proc: Proc, until: Tick) -> bool
+    pub fn belongs(&self, next_event: NextEvent, proc: Proc, until: Tick) -> bool
+        requires { IsNextEvent next_event self.now }
         ensures { (result ≡ true) ↔ BelongsToTurn until.0 self.now proc }
     {
         match self.processor_due(proc) {
             Some(tick) => {
-                tick.0 < until.0 && (self.is_first(proc, tick) || self.is_ahead(proc, tick))
+                tick.0 < until.0
+                    && (self.is_first(proc, tick) || self.is_ahead(next_event, proc, tick))
             }
             None => false,
         }
@@ -129,7 +134,14 @@ impl Parts {
 
     /// The same, by a tick before which the processor is known to be the least acting actor, if one is known; 0 where none is.
     #[inline(always)]
-    pub fn belongs_by(&self, proc: Proc, until: Tick, limit: u64) -> bool
+    pub fn belongs_by(
+        &self,
+        next_event: NextEvent,
+        proc: Proc,
+        until: Tick,
+        limit: u64,
+    ) -> bool
+        requires next_event { IsNextEvent next_event self.now }
         requires early { until.0 ≤ 2 ^ 56 }
         requires limit { (processor_of self.now proc).due < limit → HasLimit until.0 self.now proc limit }
         ensures { (result ≡ true) ↔ BelongsToTurn until.0 self.now proc }
@@ -137,6 +149,6 @@ impl Parts {
         if self.processor(proc).due < limit {
             return true;
         }
-        self.belongs(proc, until)
+        self.belongs(next_event, proc, until)
     }
 }

@@ -34,7 +34,7 @@ impl Parts {
 
     /// Whether a tick is below a processor's fence, which is asked for only from the first event that acts on.
     #[inline(always)]
-    fn is_below_fence(&self, next_event: NextEvent, proc: Proc, tick: Tick) -> bool
+    pub fn is_below_fence(&self, next_event: NextEvent, proc: Proc, tick: Tick) -> bool
         requires { IsNextEvent next_event self.now }
         ensures { (result ≡ true) ↔ IsBelowFence self.now proc tick }
     {

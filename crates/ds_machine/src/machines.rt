@@ -198,7 +198,7 @@ impl Machine {
         requires limit { (processor_of self.now proc).due < limit → HasLimit until.0 self.now proc limit }
         ensures { (result ≡ true) ↔ BelongsToTurn until.0 self.now proc }
     {
-        self.parts.belongs_by(proc, until, limit)
+        self.parts.belongs_by(self.next_event, proc, until, limit)
     }
 
     /// Whether the next step of the actor of a rank, which is due, observes geometry: the start of line 192, a unit of ARM9's channels that reads or

@@ -31,7 +31,7 @@ use Rattle.ds_machine.specs.States.{MachineState}
 use Rattle.ds_machine.specs.Steps.{is_blocked, line_of, nine_reach, seven_reach, tick_of}
 use Rattle.ds_machine.specs.TurnSteps.{BelongsToTurn}
 use Rattle.ds_machine.proofs.ActingDues.{somebody_acts}
-use Rattle.ds_machine.proofs.FenceFirsts.{ahead_where, below_where, fence_is, least_where, nine_by_parts, rank_where, seven_by_parts}
+use Rattle.ds_machine.proofs.FenceFirsts.{ahead_where, below_is, below_then, below_where, fence_is, least_where, nine_by_parts, rank_where, seven_by_parts}
 use Rattle.ds_machine.proofs.PrivateTests.{Passes, all_of}
 
 -- Whether a processor's step belongs to its turn: it does, or it doesn't.
@@ -131,8 +131,8 @@ ahead_or_not s proc tick due =
     elim (private_or_not s proc) [
       | inr never ↦ inr (λ a. never a.private)
       | inl private ↦ elim (low_or_high tick.0 fence.0.0) [
-        | inl lt ↦ inl (ahead_where s proc fence.0 tick fence.1 due lt private)
-        | inr le ↦ inr (λ a. (let lt = below_where s proc fence.0 tick fence.1 due a in absurd (omega (arith, lt, le))))
+        | inl lt ↦ inl (ahead_where s proc tick (below_is s proc fence.0 tick fence.1 lt) due private)
+        | inr le ↦ inr (λ a. (let lt = below_then s proc fence.0 tick fence.1 (below_where s proc tick due a) in absurd (omega (arith, lt, le))))
       ]
     ]
 

@@ -148,9 +148,8 @@ pub rank_where : (s : MachineState) (proc : Proc) (first : Due) (tick : Tick) �
     → first.rank ≡ rank_of proc
 rank_where s proc first tick l k = (least_unique (acting_dues s) first.tick first.rank tick (rank_of proc) l k).1
 
-pub ahead_where : (s : MachineState) (proc : Proc) (fence tick : Tick) → IsFence s proc fence → processor_due s proc ≡ Some tick → tick.0 < fence.0 → IsPrivate s proc → IsAhead s proc
-ahead_where s proc fence tick is due lt private =
-    record { private = private; below = subst (IsBelowFence s proc) (own_tick s proc tick due) (below_is s proc fence tick is lt) }
+pub ahead_where : (s : MachineState) (proc : Proc) (tick : Tick) → IsBelowFence s proc tick → processor_due s proc ≡ Some tick → IsPrivate s proc → IsAhead s proc
+ahead_where s proc tick below due private = record { private = private; below = subst (IsBelowFence s proc) (own_tick s proc tick due) below }
 
-pub below_where : (s : MachineState) (proc : Proc) (fence tick : Tick) → IsFence s proc fence → processor_due s proc ≡ Some tick → IsAhead s proc → tick.0 < fence.0
-below_where s proc fence tick is due ahead = below_then s proc fence tick is (subst (IsBelowFence s proc) (sym (own_tick s proc tick due)) ahead.below)
+pub below_where : (s : MachineState) (proc : Proc) (tick : Tick) → processor_due s proc ≡ Some tick → IsAhead s proc → IsBelowFence s proc tick
+below_where s proc tick due ahead = subst (IsBelowFence s proc) (sym (own_tick s proc tick due)) ahead.below

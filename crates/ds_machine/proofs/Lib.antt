@@ -92,3 +92,4 @@ mod WithinScript
 mod WithinSteps
 mod Within
 mod Back
+pub mod WordSpans

@@ -134,13 +134,7 @@ impl Parts {
 
     /// The same, by a tick before which the processor is known to be the least acting actor, if one is known; 0 where none is.
     #[inline(always)]
-    pub fn belongs_by(
-        &self,
-        next_event: NextEvent,
-        proc: Proc,
-        until: Tick,
-        limit: u64,
-    ) -> bool
+    pub fn belongs_by(&self, next_event: NextEvent, proc: Proc, until: Tick, limit: u64) -> bool
         requires next_event { IsNextEvent next_event self.now }
         requires early { until.0 ≤ 2 ^ 56 }
         requires limit { (processor_of self.now proc).due < limit → HasLimit until.0 self.now proc limit }

@@ -1,6 +1,6 @@
 //! Whether a processor's next step may be taken before its turn.
 
-ghost use Rattle.std.specs.Prelude.{◌≡◌, ◌↔◌, Some, true, IfSome};
+ghost use Rattle.std.specs.Prelude.{◌≡◌, ◌↔◌, ◌<◌, ◌*◌, ◌%◌, ◌^◌, Some, true, IfSome};
 ghost use Rattle.std.specs.List.{list_all};
 ghost use Rattle.arm_core.specs.Footprints.{span};
 ghost use Rattle.arm_words.specs.Fields.{HasFields};
@@ -53,6 +53,27 @@ impl Parts {
         }
     }
 
+    /// Whether so many words from an aligned address up do: one byte of each tells it.
+    fn are_words_private(
+        &self,
+        proc: Proc,
+        first: u32,
+        count: u32,
+        writing: bool,
+        fetching: bool,
+    ) -> bool
+        requires aligned { first % 4 ≡ 0 }
+        requires few { count < 2 ^ 30 }
+        ensures { result ≡ list_all (is_private_to self.now proc writing fetching) (span first (4 * count)) }
+    {
+        for i in 0..count {
+            if !self.is_private(proc, first.wrapping_add(4 * i), writing, fetching) {
+                return false;
+            }
+        }
+        true
+    }
+
     /// Whether so many bytes from an address up do.
     fn is_span_private(
         &self,
@@ -64,6 +85,9 @@ impl Parts {
     ) -> bool
         ensures { result ≡ list_all (is_private_to self.now proc writing fetching) (span first length) }
     {
+        if first % 4 == 0 && length % 4 == 0 {
+            return self.are_words_private(proc, first, length / 4, writing, fetching);
+        }
         for i in 0..length {
             if !self.is_private(proc, first.wrapping_add(i), writing, fetching) {
                 return false;

@@ -2,16 +2,18 @@ use Rattle.std.proofs.Common.{arith}
 use Rattle.ds_machine.proofs.FenceFirsts.{ahead_where, below_where}
 use Rattle.ds_machine.proofs.parts.Parts.is_ahead.Goals as goal
 
-pub returns-then-tick-fence : goal.returns-then-tick-fence
-returns-then-tick-fence c =
-    let below = c.if-tick-fence.true in (
-      λ h. ahead_where c.args.self.now c.args.proc c.fence.result c.args.tick c.fence.ensures c.requires (omega (arith, below)) (c.is_step_private.ensures.0 h),
+pub returns-then-is_below_fence : goal.returns-then-is_below_fence
+returns-then-is_below_fence c =
+    let below = c.is_below_fence.ensures.0 c.if-is_below_fence.true in (
+      λ h. ahead_where c.args.self.now c.args.proc c.args.tick below c.requires.due (c.is_step_private.ensures.0 h),
       λ k. c.is_step_private.ensures.1 k.private,
     )
 
-pub returns-else-tick-fence : goal.returns-else-tick-fence
-returns-else-tick-fence c =
-    let no = c.if-tick-fence.false in (
+pub returns-else-is_below_fence : goal.returns-else-is_below_fence
+returns-else-is_below_fence c =
+    let no = c.if-is_below_fence.false in (
       λ h. absurd (grind (arith, no, h)),
-      λ k. (let lt = below_where c.args.self.now c.args.proc c.fence.result c.args.tick c.fence.ensures c.requires k in absurd (omega (arith, no, lt))),
+      λ k.
+          (let yes = c.is_below_fence.ensures.1 (below_where c.args.self.now c.args.proc c.args.tick c.requires.due k) in
+          absurd (grind (arith, no, yes))),
     )

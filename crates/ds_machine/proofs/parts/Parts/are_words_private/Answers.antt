@@ -1,0 +1,14 @@
+use Rattle.std.proofs.Common.{◌∙◌, sym, arith}
+use Rattle.ds_machine.specs.Touching.{is_private_to}
+use Rattle.ds_machine.proofs.WordSpans.{private_by_word, word_ends, word_more}
+use Rattle.ds_machine.proofs.parts.Parts.are_words_private.Goals as goal
+
+pub loop-i-preserved : goal.loop-i-preserved
+loop-i-preserved c =
+    word_more (is_private_to c.args.self.now c.args.proc c.args.writing c.args.fetching) (private_by_word c.args.self.now c.args.proc c.args.writing c.args.fetching)
+    c.args.first c.loop-i.i c.args.count (omega arith) c.requires.aligned (sym c.is_private.ensures ∙ c.if-not-is_private.false) ∙ c.loop-i.invariant
+
+pub returns-then-not-is_private : goal.returns-then-not-is_private
+returns-then-not-is_private c =
+    sym (word_ends (is_private_to c.args.self.now c.args.proc c.args.writing c.args.fetching) (private_by_word c.args.self.now c.args.proc c.args.writing c.args.fetching)
+    c.args.first c.loop-i.i c.args.count (omega arith) c.requires.aligned (sym c.is_private.ensures ∙ c.if-not-is_private.true)) ∙ c.loop-i.invariant

@@ -1,0 +1,11 @@
+use Rattle.std.proofs.Common.{◌≡◌, ◌+◌, ◌-◌, ◌*◌}
+use Rattle.std.specs.List.{list_all}
+use Rattle.arm_core.specs.Footprints.{span}
+use Rattle.ds_machine.specs.Touching.{is_private_to}
+use Rattle.ds_machine.proofs.parts.Parts.are_words_private.Given as goal
+
+-- what is left, from here on, is private exactly where all is from the start
+abbrev pub invariant-loop-i : goal.invariant-loop-i
+invariant-loop-i l =
+    let test = is_private_to l.self l.proc l.writing l.fetching in
+    list_all test (span (l.first + 4 * l.i) (4 * (l.count - l.i))) ≡ list_all test (span l.first (4 * l.count))

@@ -13,7 +13,7 @@ use Rattle.arm_words.specs.declared.parts.Operand.TheVariants.{ShiftedByRegister
 use Rattle.arm_words.specs.declared.parts.Shift.{Shift}
 use Rattle.arm_words.specs.declared.parts.Shift.TheVariants.{Lsl, Lsr, Asr, Ror}
 use Rattle.arm_core.specs.Addressing.{addressed, addressed_literal}
-use Rattle.arm_core.specs.Branches.{branch_meaning}
+use Rattle.arm_core.specs.Branches.{branch_meaning, exchange_meaning, prefix_meaning, suffix_meaning}
 use Rattle.arm_core.specs.Conditions.{c_flag, holds, v_flag}
 use Rattle.arm_core.specs.Multiplies.{multiply_meaning}
 use Rattle.arm_core.specs.DataProcessing.{compare_result, data_meaning, data_result, result_put, move_result, with_flags}
@@ -29,7 +29,7 @@ use Rattle.arm_ops.specs.Operations.{shifted_register}
 use Rattle.arm_ops.specs.declared.operations.DataAccess.{DataAccess}
 use Rattle.arm_ops.specs.declared.operations.Number.{Number}
 use Rattle.arm_ops.specs.declared.operations.Op.{Op}
-use Rattle.arm_ops.specs.declared.operations.Op.TheVariants.{AndNumber, EorNumber, SubNumber, RsbNumber, AddNumber, OrrNumber, BicNumber, AndRegister, EorRegister, SubRegister, RsbRegister, AddRegister, OrrRegister, BicRegister, SubsNumber, AddsNumber, AndsRegister, EorsRegister, SubsRegister, AddsRegister, OrrsRegister, BicsRegister, DataShifted, DataShiftedBy, TstNumber, CmpNumber, CmnNumber, TstRegister, CmpRegister, MovNumber, MovsNumber, MovLsl, MovLsr, MovAsr, MovRor, MovsLsl, MovsLsr, MovsAsr, Mul, Mla, Branch, LdrNumber, LdrbNumber, LdrhNumber, StrNumber, StrbNumber, StrhNumber, LdrRegister, LdrbRegister, LdrhRegister, StrRegister, StrbRegister, StrhRegister, AccessNumber, AccessRegister, TransferNumber, TransferRegister, TransferShifted, Literal, Plain}
+use Rattle.arm_ops.specs.declared.operations.Op.TheVariants.{AndNumber, EorNumber, SubNumber, RsbNumber, AddNumber, OrrNumber, BicNumber, AndRegister, EorRegister, SubRegister, RsbRegister, AddRegister, OrrRegister, BicRegister, SubsNumber, AddsNumber, AndsRegister, EorsRegister, SubsRegister, AddsRegister, OrrsRegister, BicsRegister, DataShifted, DataShiftedBy, TstNumber, CmpNumber, CmnNumber, TstRegister, CmpRegister, MovNumber, MovsNumber, MovLsl, MovLsr, MovAsr, MovRor, MovsLsl, MovsLsr, MovsAsr, Mul, Mla, Branch, Exchange, LinkPrefix, LinkSuffix, LdrNumber, LdrbNumber, LdrhNumber, StrNumber, StrbNumber, StrhNumber, LdrRegister, LdrbRegister, LdrhRegister, StrRegister, StrbRegister, StrhRegister, AccessNumber, AccessRegister, TransferNumber, TransferRegister, TransferShifted, Literal, Plain}
 use Rattle.arm_ops.specs.declared.operations.Operation.{Operation}
 use Rattle.arm_ops.specs.declared.operations.ShiftedRegister.{ShiftedRegister}
 use Rattle.arm_ops.specs.declared.operations.Transfer.{Transfer}
@@ -154,6 +154,9 @@ computed arch s (MovsAsr rd rm amount) = move_by s true rd (shifted_by s rm Asr 
 computed arch s (Mul rd rm rs) = multiply_meaning s false rd rm rs 0
 computed arch s (Mla rd rm rs rn) = multiply_meaning s false rd rm rs (register s rn)
 computed arch s (Branch link far) = branch_meaning s link far
+computed arch s (Exchange rm) = exchange_meaning s rm
+computed arch s (LinkPrefix offset) = prefix_meaning s offset
+computed arch s (LinkSuffix offset) = suffix_meaning s offset
 computed arch s (Plain instr) = act_processing arch 0 s instr
 computed arch s _ = skipped s
 

@@ -1,4 +1,4 @@
-use Rattle.std.specs.Prelude.{ℕ, ◌≡◌, ◌<◌, ◌==◌, ◌||◌, ◌&&◌, not, Bool, true, false, if◌then◌else◌, Option, Some, None}
+use Rattle.std.specs.Prelude.{ℕ, ◌≡◌, ◌<◌, ◌^◌, ◌==◌, ◌||◌, ◌&&◌, not, Bool, true, false, if◌then◌else◌, Option, Some, None}
 use Rattle.std.specs.Int.{bit_not, w32}
 use Rattle.arm_words.specs.Fields.{HasFields}
 use Rattle.arm_words.specs.declared.instructions.Instr.{Instr}
@@ -26,7 +26,7 @@ use Rattle.arm_core.specs.Thumb.{equivalent}
 use Rattle.arm_ops.specs.declared.operations.DataAccess.{DataAccess}
 use Rattle.arm_ops.specs.declared.operations.Number.{Number}
 use Rattle.arm_ops.specs.declared.operations.Op.{Op}
-use Rattle.arm_ops.specs.declared.operations.Op.TheVariants.{Other, AndNumber, EorNumber, SubNumber, RsbNumber, AddNumber, OrrNumber, BicNumber, AndRegister, EorRegister, SubRegister, RsbRegister, AddRegister, OrrRegister, BicRegister, SubsNumber, AddsNumber, AndsRegister, EorsRegister, SubsRegister, AddsRegister, OrrsRegister, BicsRegister, DataShifted, DataShiftedBy, TstNumber, CmpNumber, CmnNumber, TstRegister, CmpRegister, MovNumber, MovsNumber, MovLsl, MovLsr, MovAsr, MovRor, MovsLsl, MovsLsr, MovsAsr, Mul, Mla, Branch, LdrNumber, LdrbNumber, LdrhNumber, StrNumber, StrbNumber, StrhNumber, LdrRegister, LdrbRegister, LdrhRegister, StrRegister, StrbRegister, StrhRegister, AccessNumber, AccessRegister, TransferNumber, TransferRegister, TransferShifted, Literal, Plain}
+use Rattle.arm_ops.specs.declared.operations.Op.TheVariants.{Other, AndNumber, EorNumber, SubNumber, RsbNumber, AddNumber, OrrNumber, BicNumber, AndRegister, EorRegister, SubRegister, RsbRegister, AddRegister, OrrRegister, BicRegister, SubsNumber, AddsNumber, AndsRegister, EorsRegister, SubsRegister, AddsRegister, OrrsRegister, BicsRegister, DataShifted, DataShiftedBy, TstNumber, CmpNumber, CmnNumber, TstRegister, CmpRegister, MovNumber, MovsNumber, MovLsl, MovLsr, MovAsr, MovRor, MovsLsl, MovsLsr, MovsAsr, Mul, Mla, Branch, Exchange, LinkPrefix, LinkSuffix, LdrNumber, LdrbNumber, LdrhNumber, StrNumber, StrbNumber, StrhNumber, LdrRegister, LdrbRegister, LdrhRegister, StrRegister, StrbRegister, StrhRegister, AccessNumber, AccessRegister, TransferNumber, TransferRegister, TransferShifted, Literal, Plain}
 use Rattle.arm_ops.specs.declared.operations.Operation.{Operation}
 use Rattle.arm_ops.specs.declared.operations.ShiftedRegister.{ShiftedRegister}
 use Rattle.arm_ops.specs.declared.operations.Transfer.{Transfer}
@@ -209,10 +209,10 @@ op_of (instrs.Mul cond set_flags rd rm rs) = mul_op (instrs.Mul cond set_flags r
 op_of (instrs.Mla cond set_flags rd rm rs rn) = mla_op (instrs.Mla cond set_flags rd rm rs rn) set_flags rd rm rs rn
 op_of (instrs.LongMultiply cond signed accumulate set_flags rd_lo rd_hi rm rs) =
     Plain (instrs.LongMultiply cond signed accumulate set_flags rd_lo rd_hi rm rs)
-op_of (instrs.Bx cond rm) = Plain (instrs.Bx cond rm)
+op_of (instrs.Bx cond rm) = Exchange rm
 op_of (instrs.ThumbAddress stack rd immed) = Plain (instrs.ThumbAddress stack rd immed)
-op_of (instrs.ThumbBlPrefix offset) = Plain (instrs.ThumbBlPrefix offset)
-op_of (instrs.ThumbBlSuffix offset) = Plain (instrs.ThumbBlSuffix offset)
+op_of (instrs.ThumbBlPrefix offset) = LinkPrefix offset
+op_of (instrs.ThumbBlSuffix offset) = LinkSuffix offset
 op_of _ = Other
 
 -- it isn't run here
@@ -293,6 +293,9 @@ HasOp (MovsAsr rd rm amount) = IsMove rd rm amount
 HasOp (Mul rd rm rs) = (rd < 16) × (rm < 16) × (rs < 16)
 HasOp (Mla rd rm rs rn) = (rd < 16) × (rm < 16) × (rs < 16) × (rn < 16)
 HasOp (Branch link far) = Unit {0}
+HasOp (Exchange rm) = rm < 16
+HasOp (LinkPrefix offset) = offset < 2 ^ 11
+HasOp (LinkSuffix offset) = offset < 2 ^ 11
 HasOp (LdrNumber rd rn offset) = AreLow rd rn
 HasOp (LdrbNumber rd rn offset) = AreLow rd rn
 HasOp (LdrhNumber rd rn offset) = AreLow rd rn

@@ -383,6 +383,9 @@ fn op_of(instr: &Instr) -> Op
         Instr::Branch { link, offset, .. } => Op::Branch { link, far: distance24(offset) },
         Instr::ThumbBranchIf { offset, .. } => Op::Branch { link: false, far: distance8(offset) },
         Instr::ThumbBranch { offset } => Op::Branch { link: false, far: distance11(offset) },
+        Instr::Bx { rm, .. } => Op::Exchange { rm },
+        Instr::ThumbBlPrefix { offset } => Op::LinkPrefix { offset },
+        Instr::ThumbBlSuffix { offset } => Op::LinkSuffix { offset },
         Instr::Transfer { pre, up, byte, write_back, load, rn, rd, offset, .. } => {
             transfer_op(Transfer { op: TransferOp::WordOrByte { load, byte }, pre, up, write_back, rn, rd }, offset)
         }
@@ -392,11 +395,7 @@ fn op_of(instr: &Instr) -> Op
         Instr::ThumbLoadLiteral { rd, immed } => Op::Literal { rd, immed },
         Instr::Mul { set_flags, rd, rm, rs, .. } => mul_op(*instr, set_flags, rd, rm, rs),
         Instr::Mla { set_flags, rd, rm, rs, rn, .. } => mla_op(*instr, set_flags, rd, rm, rs, rn),
-        Instr::LongMultiply { .. }
-        | Instr::Bx { .. }
-        | Instr::ThumbAddress { .. }
-        | Instr::ThumbBlPrefix { .. }
-        | Instr::ThumbBlSuffix { .. } => Op::Plain(*instr),
+        Instr::LongMultiply { .. } | Instr::ThumbAddress { .. } => Op::Plain(*instr),
         _ => Op::Other,
     }
 }

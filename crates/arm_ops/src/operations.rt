@@ -312,6 +312,18 @@ pub enum Op {
         link: bool,
         far: u32,
     },
+    /// BX.
+    Exchange {
+        rm: u8,
+    },
+    /// The first half of Thumb's BL and BLX; `offset` is below 2,048.
+    LinkPrefix {
+        offset: u16,
+    },
+    /// The second half of Thumb's BL; `offset` is below 2,048.
+    LinkSuffix {
+        offset: u16,
+    },
     /// LDR at a register and a number. The base stays.
     LdrNumber {
         rd: u8,

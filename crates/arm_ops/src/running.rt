@@ -17,7 +17,9 @@ use crate::near::{Near, load_byte, load_half, load_word, store};
 use crate::operands::{LowRegister, LowShifted};
 use crate::operations::{DataAccess, Op, Operation, TransferOp};
 use arm_core::{Bus, Registers, Stepped, addressed_literal, holds};
-use arm_exec::{act_processing, branch, half_transfer_at, multiply, skip, transfer_at};
+use arm_exec::{
+    act_processing, branch, exchange, half_transfer_at, multiply, prefix, skip, suffix, transfer_at,
+};
 use arm_words::{CompareOp, Condition, DataOp, HalfOp, Instr, Shift};
 use ds_base::{Arch, Width};
 
@@ -147,6 +149,9 @@ pub(crate) fn compute<B: Bus, N: Near<B>>(arch: Arch, s: &mut Registers, bus: &m
         Op::Mul { rd, rm, rs } => multiply(arch, s, false, rd, rm, rs, 0),
         Op::Mla { rd, rm, rs, rn } => multiply(arch, s, false, rd, rm, rs, s.get(rn)),
         Op::Branch { link, far } => branch(arch, s, link, far),
+        Op::Exchange { rm } => exchange(arch, s, rm),
+        Op::LinkPrefix { offset } => prefix(arch, s, offset),
+        Op::LinkSuffix { offset } => suffix(arch, s, offset),
         Op::Plain(ref instr) => plain(arch, instr, s),
         Op::LdrNumber { rd, rn, offset } => load_word::<B, N>(arch, s, bus, rn, rd, sum(s, rn, offset as u32)),
         Op::LdrRegister { rd, rn, rm } => load_word::<B, N>(arch, s, bus, rn, rd, sum(s, rn, s.low(rm))),

@@ -18,6 +18,8 @@ enum Line {
     /// A word of ARMv5 alone, which is no operation of ARMv4 nor of ARMv5; and one that both do as it is.
     NoWord(u32, u32),
     PlainWord(u32, u32),
+    /// BX, which both do, and its register.
+    Exchanges(u32, u32, u32),
     /// The same of a half.
     NoHalf(u32, u16),
     PlainHalf(u32, u16),
@@ -25,9 +27,14 @@ enum Line {
     HalfMoves(u32, u16, u32),
     /// The same of a half.
     HalfBranches(u32, u16, u32),
+    /// BX or a half of BL, which both do, and its register or its offset.
+    HalfCalls(u32, u16, u32),
 }
 
-use Line::{Branches, HalfBranches, HalfMoves, Moves, NoHalf, NoWord, Other, PlainHalf, PlainWord};
+use Line::{
+    Branches, Exchanges, HalfBranches, HalfCalls, HalfMoves, Moves, NoHalf, NoWord, Other,
+    PlainHalf, PlainWord,
+};
 
 /// Whether it moves a value to r0 under a condition.
 fn moves(operation: &Operation, wanted: u32, cond: Condition) -> bool {
@@ -46,6 +53,15 @@ fn branches(operation: &Operation, wanted: u32) -> bool {
     }
 }
 
+/// Whether it is BX of a register, or a half of BL with an offset.
+fn calls(operation: &Operation, wanted: u32) -> bool {
+    match operation.op {
+        Op::Exchange { rm } => rm as u32 == wanted,
+        Op::LinkPrefix { offset } | Op::LinkSuffix { offset } => offset as u32 == wanted,
+        _ => false,
+    }
+}
+
 /// Whether a line says what a cache of ARMv5's words or of ARMv4's halves has, or caches of both.
 fn is_right(five: &mut Decoder<5>, four: &mut Decoder<4>, line: Line) -> bool {
     match line {
@@ -56,6 +72,14 @@ fn is_right(five: &mut Decoder<5>, four: &mut Decoder<4>, line: Line) -> bool {
         PlainWord(at, word) => {
             let of_five = matches!(five.arm_operation(at, word).op, Op::Plain(_));
             of_five && matches!(four.arm_operation(at, word).op, Op::Plain(_))
+        }
+        Exchanges(at, word, rm) => {
+            let of_five = calls(five.arm_operation(at, word), rm);
+            of_five && calls(four.arm_operation(at, word), rm)
+        }
+        HalfCalls(at, half, field) => {
+            let of_five = calls(five.thumb_operation(at, half), field);
+            of_five && calls(four.thumb_operation(at, half), field)
         }
         NoHalf(at, half) => {
             let of_five = matches!(five.thumb_operation(at, half).op, Op::Other);
@@ -91,11 +115,11 @@ fn each_word_is_decoded_whatever_was_kept(rt: HostRuntime) -> Result<(), AllocEr
         Moves(0x200_0000, 0xE3A0_0002, 2, Al), Moves(0x201_0000, 0x03A0_0002, 2, Eq), Moves(0x200_0000, 0xE3A0_0001, 1, Al),
         // two halves that share a place, and one beside them: mov r0, #1; and a branch to itself, 4 bytes before r15
         HalfMoves(0x300_0000, 0x2001, 1), HalfBranches(0x300_0000, 0xE7FE, 0xFFFF_FFFC),
-        HalfMoves(0x300_8000, 0x2001, 1), HalfBranches(0x300_8000, 0xE7FE, 0xFFFF_FFFC),
+        HalfMoves(0x301_0000, 0x2001, 1), HalfBranches(0x301_0000, 0xE7FE, 0xFFFF_FFFC),
         HalfMoves(0x300_0002, 0x2001, 1), HalfBranches(0x300_0002, 0xE7FE, 0xFFFF_FFFC),
         HalfMoves(0x300_0000, 0x2001, 1), HalfBranches(0x300_0000, 0xE7FE, 0xFFFF_FFFC),
-        // bx, the halves of bl, and an address of r15 are done as they are, by both
-        PlainWord(0x200_0000, 0xE12F_FF11), PlainHalf(0x300_0000, 0x4708), PlainHalf(0x300_0002, 0xF000), PlainHalf(0x300_0004, 0xF800),
+        // bx and the halves of bl by their fields, and an address of r15 as it is, by both
+        Exchanges(0x200_0000, 0xE12F_FF11, 1), HalfCalls(0x300_0000, 0x4708, 1), HalfCalls(0x300_0002, 0xF001, 1), HalfCalls(0x300_0004, 0xF802, 2),
         PlainHalf(0x300_0006, 0xA001), PlainWord(0x200_0004, 0xE081_0392), PlainWord(0x200_0008, 0xE131_0002),
         // blx, bkpt, clz, qadd, smlabb, smulwb, ldrd, strd, mcr, blx to a target and pld are ARMv5's; none is an operation
         NoWord(0x200_0000, 0xE12F_FF31), NoWord(0x200_0000, 0xE120_0070), NoWord(0x200_0000, 0xE16F_0F11), NoWord(0x200_0000, 0xE101_0052),

@@ -4,12 +4,13 @@ use super::forms::Form;
 use super::forms::Form::{
     AccessNumber, AccessRegister, AddNumber, AddRegister, AddsNumber, AddsRegister, AndNumber,
     AndRegister, AndsRegister, BicNumber, BicRegister, BicsRegister, Branch, CmnNumber, CmpNumber,
-    CmpRegister, DataShifted, DataShiftedBy, EorNumber, EorRegister, EorsRegister, LdrNumber,
-    LdrRegister, LdrbNumber, LdrbRegister, LdrhNumber, LdrhRegister, Literal, Mla, MovAsr, MovLsl,
-    MovLsr, MovNumber, MovRor, MovsAsr, MovsLsl, MovsLsr, MovsNumber, Mul, OrrNumber, OrrRegister,
-    OrrsRegister, Plain, RsbNumber, RsbRegister, StrNumber, StrRegister, StrbNumber, StrbRegister,
-    StrhNumber, StrhRegister, SubNumber, SubRegister, SubsNumber, SubsRegister, TransferNumber,
-    TransferRegister, TransferShifted, TstNumber, TstRegister,
+    CmpRegister, DataShifted, DataShiftedBy, EorNumber, EorRegister, EorsRegister, Exchange,
+    LdrNumber, LdrRegister, LdrbNumber, LdrbRegister, LdrhNumber, LdrhRegister, LinkPrefix,
+    LinkSuffix, Literal, Mla, MovAsr, MovLsl, MovLsr, MovNumber, MovRor, MovsAsr, MovsLsl, MovsLsr,
+    MovsNumber, Mul, OrrNumber, OrrRegister, OrrsRegister, Plain, RsbNumber, RsbRegister,
+    StrNumber, StrRegister, StrbNumber, StrbRegister, StrhNumber, StrhRegister, SubNumber,
+    SubRegister, SubsNumber, SubsRegister, TransferNumber, TransferRegister, TransferShifted,
+    TstNumber, TstRegister,
 };
 use super::lines::Line::{
     Arm, At, Both, Flags, Is, Mem, Near, Nzcv, Other, Pc, R, Thumb, To, To7, To9,
@@ -359,11 +360,11 @@ fn products_branches_and_accesses_are_operations_of_their_forms(rt: HostRuntime)
         R(14, 7),     Thumb(0xE7FE),    Is(Branch), Pc(0x100),                                Near, Both(3, 3), // b
                       Thumb(0xD1FE),    Is(Branch), Pc(0x100),                                Near, Both(3, 3), // bne
                       Thumb(0xD0FE),    Is(Branch),                                           Near, Both(1, 1), // beq
-        R(14, 0x201), Arm(0xE12F_FF1E), Is(Plain),  Pc(0x200), To(CPSR, 0x3F),                Near, Both(3, 3), // bx r14
-        R(14, 0x204), Thumb(0x4770),    Is(Plain),  Pc(0x204), To(CPSR, 0x1F),                Near, Both(3, 3), // bx r14
+        R(14, 0x201), Arm(0xE12F_FF1E), Is(Exchange), Pc(0x200), To(CPSR, 0x3F),              Near, Both(3, 3), // bx r14
+        R(14, 0x204), Thumb(0x4770),    Is(Exchange), Pc(0x204), To(CPSR, 0x1F),              Near, Both(3, 3), // bx r14
         At(0x102),    Thumb(0xA001),    Is(Plain),  To(0, 0x108),                             Near, Both(1, 1), // add r0, r15, #0x4
-        R(14, 7),     Thumb(0xF7FF),    Is(Plain),  To(LR, 0xFFFF_F104),        Near, Both(1, 1), // blh #0x7ff
-        R(14, 0x300), Thumb(0xF802),    Is(Plain),  To(LR, 0x103), Pc(0x304),                 Near, Both(3, 3), // bll #0x2
+        R(14, 7),     Thumb(0xF7FF),    Is(LinkPrefix), To(LR, 0xFFFF_F104),                  Near, Both(1, 1), // blh #0x7ff
+        R(14, 0x300), Thumb(0xF802),    Is(LinkSuffix), To(LR, 0x103), Pc(0x304),             Near, Both(3, 3), // bll #0x2
 
         // loads and stores at the sum of a register and a number; the word at 2000060h is 87654321h, and the next is 9
         R(14, 0x200_0060),

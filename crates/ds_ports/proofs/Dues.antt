@@ -17,7 +17,7 @@ use Rattle.ds_ports.specs.Acting.{first_acting_io_due}
 use Rattle.ds_ports.specs.Dues.{dma_due_in, io_due}
 use Rattle.ds_ports.specs.Inside.{first_with, moves_dues, moving_parts}
 use Rattle.ds_ports.specs.ProcessorIo.{ProcessorIoState, keys_hold, keys_told}
-use Rattle.ds_ports.specs.Registers.{after_write, meaning_of}
+use Rattle.ds_ports.specs.Registers.{after_write, meaning_of, word_received, word_sent}
 use Rattle.ds_ports.specs.Io.{IoState, keys_pressed, io_of, with_halted, with_io_of}
 use Rattle.ds_ports.specs.Touches.{UnitPart, Display, among, beyond, changes_some, io_graft}
 use Rattle.ds_ports.specs.declared.registers.Register.{Register}
@@ -155,3 +155,12 @@ writes_move_none proc now u DisplayHalf number value none = same u (after_write 
 writes_move_none proc now u DisplayWord number value none = same u (after_write proc now u DisplayWord number value) (written_scan proc u.video number Word value) refl refl refl refl refl refl refl refl refl
 writes_move_none Nine now u register number value none = by_row Nine now u register number value refl none
 writes_move_none Seven now u register number value none = by_row Seven now u register number value refl none
+
+-- the words of the FIFOs
+pub received_moves_none : (proc : Proc) (u : IoState) → first_acting_io_due (word_received proc u) ≡ first_acting_io_due u
+unfolding first_acting_io_due
+received_moves_none proc u = refl
+
+pub sent_moves_none : (proc : Proc) (u : IoState) (word : ℕ) → first_acting_io_due (word_sent proc u word) ≡ first_acting_io_due u
+unfolding first_acting_io_due
+sent_moves_none proc u word = refl

@@ -1,13 +1,14 @@
-use Rattle.std.proofs.Common.{ℕ, ◌≡◌, ◌<◌, ◌+◌, ◌*◌, ◌/◌, ◌%◌, ◌^◌, Bool, true, false, refl, arith}
+use Rattle.std.proofs.Common.{ℕ, ◌≡◌, ◌<◌, ◌+◌, ◌*◌, ◌/◌, ◌%◌, ◌^◌, Bool, true, false, None, refl, ap, arith}
 use Rattle.ds_base.specs.Bits.{flag}
 use Rattle.ds_base.specs.declared.memories.Width.TheVariants.{Half, Word}
 use Rattle.ds_base.specs.declared.processors.Proc.{Proc}
 use Rattle.ds_base.specs.declared.processors.Proc.TheVariants.{Nine, Seven}
 use Rattle.ds_base.specs.declared.ticks.Tick.{Tick}
-use Rattle.ds_ipc.specs.Ipcs.{ipc_control_word, ipc_sync_word}
-use Rattle.ds_ports.specs.Ports.{part, port_read, port_value}
+use Rattle.ds_ipc.specs.Ipcs.{ipc_control_word, ipc_received_word, ipc_sync_word}
+use Rattle.ds_ports.specs.Ports.{part, port_read, port_refusal, port_value, port_written, with_bytes_from}
 use Rattle.ds_ports.specs.ProcessorIo.{keyinput_word}
 use Rattle.ds_ports.specs.RegisterMap.{slot_of}
+use Rattle.ds_ports.specs.Registers.{word_received, word_sent}
 use Rattle.ds_ports.specs.Io.{IoState, io_of}
 use Rattle.video2d.specs.Statuses.{status_word}
 use Rattle.video2d.specs.Videos.{status_of}
@@ -98,3 +99,28 @@ pub if_left : (proc : Proc) (now : Tick) (u : IoState) → port_read proc now u 
 unfolding port_read slot_of
 if_left Nine now u = refl
 if_left Seven now u = refl
+
+-- ---- the words of the FIFOs: one that is received, and one that is sent
+
+pub received_word : (proc : Proc) (now : Tick) (u : IoState) → ipc_received_word u.ipc proc < 2 ^ 32 → port_value proc now u 0x100000 Word ≡ ipc_received_word u.ipc proc
+unfolding port_value slot_of
+received_word Nine now u l = all_of_word (ipc_received_word u.ipc Nine) l
+received_word Seven now u l = all_of_word (ipc_received_word u.ipc Seven) l
+
+pub received_left : (proc : Proc) (now : Tick) (u : IoState) → port_read proc now u 0x100000 Word ≡ word_received proc u
+unfolding port_read slot_of
+received_left Nine now u = refl
+received_left Seven now u = refl
+
+pub sent_refusal : (proc : Proc) (u : IoState) (word : ℕ) → port_refusal proc u 0x188 Word word ≡ None
+unfolding port_refusal slot_of
+sent_refusal Nine u word = refl
+sent_refusal Seven u word = refl
+
+whole_word : (word : ℕ) → word < 2 ^ 32 → with_bytes_from Word 0 0 word ≡ word
+whole_word word l = omega (arith, l)
+
+pub sent_written : (proc : Proc) (now : Tick) (u : IoState) (word : ℕ) → word < 2 ^ 32 → port_written proc now u 0x188 Word word ≡ word_sent proc u word
+unfolding port_written slot_of
+sent_written Nine now u word l = ap (word_sent Nine u) (whole_word word l)
+sent_written Seven now u word l = ap (word_sent Seven u) (whole_word word l)

@@ -18,7 +18,7 @@ use Rattle.ds_timers.specs.Irqs.{events, level}
 use Rattle.gx_fifo.specs.GxStates.{gx_level}
 use Rattle.ds_ports.specs.Inside.{moves_dues}
 use Rattle.ds_ports.specs.ProcessorIo.{if_written, keycnt_written, keys_hold, kept_keycnt, processor_io_raised}
-use Rattle.ds_ports.specs.Registers.{after_write, meaning_of}
+use Rattle.ds_ports.specs.Registers.{after_write, meaning_of, word_received, word_sent}
 use Rattle.ds_ports.specs.Io.{IoState, both_raised, is_settled, raised_to}
 use Rattle.ds_ports.specs.Touches as touches
 use Rattle.ds_ports.specs.Touches.{UnitPart, DmaNine, IrqNine, Released, among, changes_some}
@@ -148,3 +148,10 @@ writes_leave_settled proc now u Ipcfifosend number value none h = passed_raised 
 writes_leave_settled proc now u Ipcfiforecv number value none h = h
 writes_leave_settled Nine now u register number value none h = by_row Nine now u register number value refl none h
 writes_leave_settled Seven now u register number value none h = by_row Seven now u register number value refl none h
+
+-- the words of the FIFOs
+pub received_settled : (proc : Proc) (u : IoState) → is_settled u ≡ true → is_settled (word_received proc u) ≡ true
+received_settled proc u h = passed_raised u (ipc_received u.ipc proc) (ipc_receive_raised u.ipc proc) h
+
+pub sent_settled : (proc : Proc) (u : IoState) (word : ℕ) → is_settled u ≡ true → is_settled (word_sent proc u word) ≡ true
+sent_settled proc u word h = passed_raised u (ipc_sent u.ipc proc word) (ipc_send_raised u.ipc proc) h

@@ -1,13 +1,18 @@
-use Rattle.std.proofs.Common.{ℕ, ◌≡◌, ◌+◌, nat_le, Bool, true, false, Option, Some, None, refl, arith}
+use Rattle.std.proofs.Common.{ℕ, ◌≡◌, ◌<◌, ◌≤◌, ◌+◌, ◌^◌, nat_le, Bool, true, false, Option, Some, None, refl, ap, subst, arith}
 use Rattle.ds_base.specs.Numbers.{width_bytes}
 use Rattle.ds_base.specs.declared.memories.Width.{Width}
 use Rattle.ds_base.specs.declared.memories.Width.TheVariants.{Byte, Half, Word}
 use Rattle.ds_base.specs.declared.processors.Proc.{Proc}
 use Rattle.ds_base.specs.declared.ticks.Tick.{Tick}
-use Rattle.ds_ports.specs.Ports.{is_narrow, port_read, port_refusal, port_value, port_written, slot_refusal, slot_value, slot_written, whole_if, whole_in}
+use Rattle.gx_fifo.specs.GxPorts.{gx_port}
+use Rattle.gx_fifo.specs.GxStates.{GxState, IsGx, gx_kept, kept_port}
+use Rattle.gx_fifo.specs.declared.ports.GxPort.{GxPort}
+use Rattle.gx_fifo.specs.declared.ports.GxPort.TheVariants.{Display, Status}
+use Rattle.ds_ports.specs.Ports.{is_narrow, port_read, port_refusal, port_value, port_written, slot_refusal, slot_value, slot_written, unless_stopped, whole_if, whole_in, with_bytes_from}
 use Rattle.ds_ports.specs.RegisterMap.{slot_of}
-use Rattle.ds_ports.specs.Registers.{meaning_of}
+use Rattle.ds_ports.specs.Registers.{after_write, meaning_of}
 use Rattle.ds_ports.specs.Io.{IoState}
+use Rattle.ds_ports.specs.declared.registers.Register.TheVariants.{GxCommand}
 use Rattle.ds_ports.specs.declared.registers.Slot.{Slot}
 
 -- An access that lies in one register, whatever its width.
@@ -58,3 +63,30 @@ unfolding port_written
 written_whole proc now u at Byte value slot h = rw (there Byte (slot_of proc at) slot h) refl
 written_whole proc now u at Half value slot h = rw h refl
 written_whole proc now u at Word value slot h = rw h refl
+
+-- ---- a whole word of GXFIFO or of a command's port, which refuses none
+
+kept_few : (port : GxPort) (s : GxState) → IsGx s → kept_port port s < 2 ^ 32
+unfolding kept_port
+kept_few Display s is = let l = is.display in omega (arith, l)
+kept_few Status s is = let l = is.selector in omega (arith, l)
+kept_few _ s is = omega arith
+
+joined_whole : (byte kept value : ℕ) → byte ≡ 0 → kept < 2 ^ 32 → value < 2 ^ 32 → with_bytes_from Word byte kept value ≡ value
+joined_whole byte kept value first few l = rw first (omega (arith, few, l))
+
+pub command_refusal : (proc : Proc) (u : IoState) (slot : Slot) (value : ℕ) → slot.register ≡ GxCommand → slot_refusal proc u Word slot value ≡ None
+command_refusal proc u slot value is = rw is refl
+
+pub command_written : (proc : Proc) (now : Tick) (u : IoState) (slot : Slot) (value : ℕ) → slot.register ≡ GxCommand → slot.byte + 4 ≤ 4 → value < 2 ^ 32 → IsGx u.gx
+    → slot_written proc now u Word slot value ≡ after_write proc now u GxCommand slot.number value
+command_written proc now u slot value is whole l gx =
+    let first : slot.byte ≡ 0 = omega (arith, whole) in
+    rw is (ap (λ (word : ℕ). after_write proc now u GxCommand slot.number word) (joined_whole slot.byte (gx_kept u.gx slot.number) value first (kept_few (gx_port slot.number) u.gx gx) l))
+
+pub command_put : (proc : Proc) (now : Tick) (u : IoState) (width : Width) (slot : Slot) (value : ℕ) → width ≡ Word → slot.register ≡ GxCommand
+    → slot.byte + width_bytes width ≤ 4 → value < 2 ^ 32 → IsGx u.gx
+    → unless_stopped (slot_refusal proc u width slot value) u (slot_written proc now u width slot value) ≡ after_write proc now u GxCommand slot.number value
+command_put proc now u width slot value e is whole l gx =
+    let there : slot.byte + 4 ≤ 4 = subst (λ (w : Width). slot.byte + width_bytes w ≤ 4) e whole in
+    rw e (rw (command_refusal proc u slot value is) (command_written proc now u slot value is there l gx))

@@ -2,6 +2,7 @@
 
 ghost use Rattle.std.specs.Prelude.{◌≡◌, ◌<◌, ◌≤◌, ◌^◌, false, true, IfOk, IsSome, Some, length};
 ghost use Rattle.ds_base.specs.Schedules.{IsEarly};
+ghost use Rattle.ds_ipc.specs.Ipcs.{ipc_received_word};
 ghost use Rattle.ds_dma.specs.States.{dma_due, most_waits};
 ghost use Rattle.ds_runs.specs.Actors.{IsNumbered};
 ghost use Rattle.ds_runs.specs.declared.actors.Actor.TheVariants as actors;
@@ -13,7 +14,8 @@ ghost use Rattle.ds_ports.specs.Dues.{io_due};
 ghost use Rattle.ds_ports.specs.Guards.{is_overfull};
 ghost use Rattle.ds_ports.specs.Inside.{is_of_geometry, moves_dues};
 ghost use Rattle.ds_ports.specs.ProcessorIo.{before_move};
-ghost use Rattle.ds_ports.specs.Registers.{after_write, card_word_taken, meaning_of};
+ghost use Rattle.ds_ports.specs.Registers.{after_write, card_word_taken, meaning_of, word_received, word_sent};
+ghost use Rattle.ds_ports.specs.declared.registers.Register.TheVariants.{GxCommand};
 ghost use Rattle.ds_ports.specs.Io.{channel_moved, channel_put_back, geometry_swapped, io_at_boot, io_event, io_of, io_of_parts, is_settled, keys_pressed, settled, video_done, with_halted};
 ghost use Rattle.video2d.specs.Videos.{video_answer};
 
@@ -318,6 +320,42 @@ impl Io {
         }
         self.units
             .write_register(proc, now, register, number, value);
+    }
+
+    /// A word is written to GXFIFO or to the port of a command.
+    #[inline(never)]
+    #[tactic(auto, using(crate::proofs::Silent::geometry_written_moves_none, crate::proofs::Silent::geometry_written_settles_none))]
+    pub(crate) fn write_command(&mut self, proc: Proc, now: Tick, number: u32, value: u32)
+        requires early { IsEarly (Some now) }
+        requires room { is_overfull proc self.old ≡ false }
+        ensures { self.new ≡ after_write proc now self.old GxCommand number value }
+    {
+        let silent = self.units.is_silent();
+        self.units.set_gx(proc, now, number, value);
+        if silent && self.units.is_silent() {
+            return;
+        }
+        self.settled = false;
+        self.first = self.units.find_acting();
+    }
+
+    /// A word is sent to the other processor.
+    #[inline(never)]
+    #[tactic(auto, using(crate::proofs::Dues::sent_moves_none, crate::proofs::Settled::sent_settled))]
+    pub(crate) fn send(&mut self, proc: Proc, word: u32)
+        ensures { self.new ≡ word_sent proc self.old word }
+    {
+        self.units.send(proc, word);
+    }
+
+    /// A word is received from the other processor.
+    #[inline(never)]
+    #[tactic(auto, using(crate::proofs::Dues::received_moves_none, crate::proofs::Settled::received_settled))]
+    pub(crate) fn receive(&mut self, proc: Proc) -> u32
+        ensures value { result ≡ ipc_received_word self.old.ipc proc }
+        ensures next { self.new ≡ word_received proc self.old }
+    {
+        self.units.receive(proc)
     }
 
     /// The same, where it may change when something is due, or leave something to settle. A write of geometry's does neither where nobody hears of

@@ -1,9 +1,10 @@
 //! Accesses of ports.
 
-ghost use Rattle.std.specs.Prelude.{ℕ, ◌≡◌, ◌<◌, ◌≤◌, ◌+◌, ◌%◌, ◌^◌, false, IfSome, None, Some};
+ghost use Rattle.std.specs.Prelude.{ℕ, ◌≡◌, ◌<◌, ◌≤◌, ◌+◌, ◌%◌, ◌^◌, false, true, IfSome, None, Some};
 ghost use Rattle.ds_base.specs.Numbers.{width_bytes};
 ghost use Rattle.ds_base.specs.Schedules.{IsEarly};
 ghost use Rattle.ds_base.specs.declared.memories.Width.{Width};
+ghost use Rattle.ds_base.specs.declared.memories.Width.TheVariants.{Word};
 ghost use Rattle.ds_base.specs.declared.processors.Proc.{Proc};
 ghost use Rattle.ds_base.specs.declared.ticks.Tick.{Tick};
 ghost use Rattle.ds_ports.specs.Ports.{GoesAscending, byte_refusal, byte_written, first_stop, half_refusal, half_written, ignores, with_bytes_from, part, port_byte, port_half, port_read, port_refusal, port_value, port_word, port_written, slot_joined, slot_refusal, slot_value, slot_written, unless_stopped, whole_in, word_refusal, word_written};
@@ -12,10 +13,17 @@ ghost use Rattle.ds_ports.specs.Guards.{guarded_refusal, guarded_written, is_ove
 ghost use Rattle.ds_ports.specs.Happenings.{Goes, IsProcessorIo, HasOnlyLaterEvents};
 ghost use Rattle.ds_ports.specs.RegisterMap.{IsSlot, StandsWhole, slot_of};
 ghost use Rattle.ds_ports.specs.Io.{IoState, io_of};
+ghost use Rattle.ds_ports.specs.declared.registers.Register.TheVariants.{GxCommand};
 
 use crate::io::Io;
 use crate::registers::{Register, Slot, slot_at, slot_of};
 use ds_base::{Proc, Stop, Tick, Width};
+
+/// The offset of IPCFIFOSEND.
+const IPCFIFOSEND: u32 = 0x188;
+
+/// The offset of IPCFIFORECV.
+const IPCFIFORECV: u32 = 0x10_0000;
 
 /// How many bytes an access moves.
 #[inline(always)]
@@ -86,6 +94,14 @@ fn ignores(width: Width, register: Register) -> bool
             register,
             Register::Ipcfifosend | Register::Ipcfiforecv | Register::CardData | Register::GxCommand
         )
+}
+
+/// Whether an access is of a whole word of GXFIFO or of a command's port.
+#[inline(always)]
+fn is_command(width: Width, register: Register) -> bool
+    ensures { result ≡ true → (width ≡ Word) × (register ≡ GxCommand) }
+{
+    matches!((width, register), (Width::Word, Register::GxCommand))
 }
 
 /// The first of two stops.
@@ -197,6 +213,7 @@ impl Io {
 
     /// What a processor's access reads at an offset from 4000000h, at a tick, and the read. What is read most is asked first.
     #[inline(always)]
+    #[tactic(auto, using(crate::proofs::Often::received_word, crate::proofs::Often::received_left))]
     pub fn take(&mut self, proc: Proc, now: Tick, at: u32, width: Width) -> u32
         requires at { at < 2 ^ 24 }
         requires early { IsEarly (Some now) }
@@ -205,6 +222,9 @@ impl Io {
     {
         if let Some(value) = self.value_often(proc, at, width) {
             return value;
+        }
+        if at == IPCFIFORECV && width == Width::Word {
+            return self.receive(proc);
         }
         self.take_by_map(proc, now, at, width)
     }
@@ -246,8 +266,9 @@ impl Io {
         }
     }
 
-    /// Writes some bytes of a register, unless it refuses this.
+    /// Writes some bytes of a register, unless it refuses this. A word that geometry is given is written at once.
     #[inline(always)]
+    #[tactic(auto, using(crate::proofs::Wholes::command_refusal))]
     fn put_part(
         &mut self,
         proc: Proc,
@@ -264,6 +285,11 @@ impl Io {
         ensures next { self.new
             ≡ unless_stopped (slot_refusal proc self.old width slot value) self.old (slot_written proc now self.old width slot value) }
     {
+        if is_command(width, slot.register) {
+            self.gx().laws();
+            self.write_command(proc, now, slot.number, value);
+            return None;
+        }
         if ignores(width, slot.register) {
             return None;
         }
@@ -410,7 +436,7 @@ impl Io {
 
     /// A write of any width, unless it is refused, or ignored for want of room. A register in which it lies whole is found once.
     #[inline(always)]
-    #[tactic(auto, using(crate::proofs::Wholes::refusal_whole, crate::proofs::Wholes::written_whole))]
+    #[tactic(auto, using(crate::proofs::Wholes::refusal_whole, crate::proofs::Wholes::written_whole, crate::proofs::Often::sent_refusal, crate::proofs::Often::sent_written))]
     fn put_any(&mut self, proc: Proc, now: Tick, at: u32, width: Width, value: u32) -> Option<Stop>
         requires at { at < 2 ^ 24 }
         requires early { IsEarly (Some now) }
@@ -418,6 +444,10 @@ impl Io {
         ensures next { self.new ≡ guarded_written proc now self.old at width value }
     {
         if self.is_overfull(proc) {
+            return None;
+        }
+        if at == IPCFIFOSEND && width == Width::Word {
+            self.send(proc, value);
             return None;
         }
         match whole_in(width, slot_at(proc, at)) {

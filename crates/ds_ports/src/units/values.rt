@@ -3,6 +3,7 @@
 ghost use Rattle.std.specs.Prelude.{◌≡◌, ◌<◌, true, Some};
 ghost use Rattle.ds_base.specs.Bits.{flag};
 ghost use Rattle.ds_base.specs.Schedules.{IsEarly};
+ghost use Rattle.ds_ipc.specs.Ipcs.{ipc_received_word};
 ghost use Rattle.ds_ports.specs.Inside.{is_of_unit};
 ghost use Rattle.ds_ports.specs.Registers.{card_word_taken, divcnt_word, meaning_of, sqrtcnt_word, word_of_two, word_received};
 
@@ -115,7 +116,9 @@ impl Units {
         ensures { self.new ≡ (meaning_of register).after_read proc now self.old }
     {
         match register {
-            Register::Ipcfiforecv => self.take_word(proc),
+            Register::Ipcfiforecv => {
+                let _word = self.receive(proc);
+            }
             Register::CardData => self.take_card_word(proc, now),
             _ => {}
         }
@@ -133,12 +136,14 @@ impl Units {
         }
     }
 
-    /// Takes the word that a processor receives.
-    fn take_word(&mut self, proc: Proc)
-        ensures { self.new ≡ word_received proc self.old }
+    /// Takes the word that a processor receives, and gives it.
+    pub(crate) fn receive(&mut self, proc: Proc) -> u32
+        ensures word { result ≡ ipc_received_word self.old.ipc proc }
+        ensures state { self.new ≡ word_received proc self.old }
     {
         let got = self.ipc.receive(proc);
         self.raise(got.raised);
+        got.word
     }
 
     /// The bits that a write of some of a register's bytes leaves as they are in the others.

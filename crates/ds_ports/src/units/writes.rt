@@ -63,7 +63,7 @@ impl Units {
     }
 
     /// A write of IPCFIFOSEND.
-    fn send(&mut self, proc: Proc, word: u32)
+    pub(crate) fn send(&mut self, proc: Proc, word: u32)
         ensures { self.new ≡ word_sent proc self.old word }
     {
         let raised = self.ipc.send(proc, word);
@@ -132,7 +132,7 @@ impl Units {
     }
 
     /// A write of one of geometry's, which ARM9 alone has.
-    fn set_gx(&mut self, proc: Proc, now: Tick, number: u32, value: u32)
+    pub(crate) fn set_gx(&mut self, proc: Proc, now: Tick, number: u32, value: u32)
         requires early { IsEarly (Some now) }
         requires room { is_overfull proc self.old ≡ false }
         ensures { self.new ≡ gx_set proc now self.old number value }

@@ -43,7 +43,7 @@ impl Parts {
     pub fn is_behind(&self, tick: Tick, rank: u8) -> bool
         ensures { result ≡ is_behind tick.0 rank self.now }
     {
-        self.io.is_quiet() && is_due_before(self.io.io_due(Actor::Geometry), tick, rank)
+        is_due_before(self.io.gx().due(), tick, rank) && self.io.is_quiet()
     }
 
     /// The step of quiet geometry. Nobody hears of it: on a sound machine nothing is to settle after it, and nobody is to wake.

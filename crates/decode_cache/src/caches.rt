@@ -125,6 +125,18 @@ impl<const VERSION: u32, const BITS: u32> DecodeCache<VERSION, BITS> {
         entry.learn(number);
     }
 
+    /// The instruction of a number as an operation, where the number is kept for a place of the code.
+    #[inline(always)]
+    pub fn kept(&self, at: u32, number: u32) -> Option<&Operation>
+        ensures { IfSome result (λ operation. operation.now ≡ operation_of (known VERSION BITS number)) }
+    {
+        let entry = &self.entries[place::<BITS>(at)];
+        if entry.number != number {
+            return None;
+        }
+        Some(&entry.operation)
+    }
+
     /// The instruction of a number that is kept for a place of the code, or none, as an operation.
     #[inline(always)]
     pub fn operation(&self, at: u32, number: u32) -> &Operation

@@ -1,6 +1,6 @@
 //! A decoder of one version of the architecture.
 
-ghost use Rattle.std.specs.Prelude.{◌≡◌};
+ghost use Rattle.std.specs.Prelude.{◌≡◌, IfSome};
 ghost use Rattle.decode_cache.specs.Known.{arch_of};
 ghost use Rattle.arm_ops.specs.Operations.{operation_of, HasOperation};
 ghost use Rattle.arm_words.specs.ArmTable.{decoded_arm};
@@ -56,5 +56,25 @@ impl<const VERSION: u32> Decoder<VERSION> {
     {
         self.halves.learn(at / 2, half as u32);
         self.halves.operation(at / 2, half as u32)
+    }
+
+    /// The same as `arm_operation`, where the word is kept.
+    #[inline(always)]
+    #[tactic(auto, unfolding(crate::specs::Known::known), using(crate::proofs::Fields::word_operation))]
+    pub fn kept_word(&self, at: u32, word: u32) -> Option<&Operation>
+        ensures operation { IfSome result (λ operation. operation.now ≡ operation_of (decoded_arm (arch_of VERSION) word)) }
+        ensures fields { IfSome result (λ operation. HasOperation operation.now) }
+    {
+        self.words.kept(at / 4, word)
+    }
+
+    /// The same as `thumb_operation`, where the half is kept.
+    #[inline(always)]
+    #[tactic(auto, unfolding(crate::specs::Known::known), using(crate::proofs::Fields::half_operation, crate::proofs::Fields::half_itself))]
+    pub fn kept_half(&self, at: u32, half: u16) -> Option<&Operation>
+        ensures operation { IfSome result (λ operation. operation.now ≡ operation_of (decoded_thumb (arch_of VERSION) half)) }
+        ensures fields { IfSome result (λ operation. HasOperation operation.now) }
+    {
+        self.halves.kept(at / 2, half as u32)
     }
 }

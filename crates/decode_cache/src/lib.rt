@@ -4,8 +4,9 @@
 //! speaks of what is kept. Each look-up is exactly the instruction of its word.
 //!
 //! Proved: `Decoder::arm_operation` and `thumb_operation` are exactly what the instruction of the word or half, on the version's
-//! architecture, is decoded as (`operation_of`), whatever is kept and at whatever address; its fields are in their ranges. `Decoder::new`
-//! refuses only for want of memory, its error's one cause; all memory is taken there.
+//! architecture, is decoded as (`operation_of`), whatever is kept and at whatever address; its fields are in their ranges. So is what `kept_word`
+//! and `kept_half` give, where they give one: they change nothing. `Decoder::new` refuses only for want of memory, its error's one cause; all
+//! memory is taken there.
 //!
 //! Only tested, in `arm_exec_tests`: words that were kept, and others at their places between them.
 #![tactic(auto)]

@@ -112,7 +112,7 @@ kind_known arch (Some (ThumbBkpt immed)) h = absurd (true≢false h)
 kind_known arch (Some (Coprocessor cond load op1 crn rd cp op2 crm)) h = absurd (true≢false h)
 kind_known arch (Some _) h = refl
 
-accesses_known : (arch : Arch) (base : ℕ) (s : RegisterState) (instr : Option Instr) → is_other (operation_of instr).op ≡ false
+pub accesses_known : (arch : Arch) (base : ℕ) (s : RegisterState) (instr : Option Instr) → is_other (operation_of instr).op ≡ false
     → data_accesses arch base s instr ≡ accesses_by arch s (access_made s (operation_of instr))
 accesses_known arch base s None h = absurd (true≢false h)
 accesses_known arch base s (Some instr) h = ap (λ (m : Meaning). m.accesses) (operation_means arch base s instr h) ∙ made_accesses arch s (operation_of (Some instr))

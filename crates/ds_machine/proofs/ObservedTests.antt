@@ -1,5 +1,5 @@
 use Rattle.std.proofs.Common.{ℕ, ◌≡◌, ◌<◌, ◌-◌, ◌/◌, nat_le, not, if◌then◌else◌, Bool, true, false, true≢false, List, [], ◌∷◌, Option, Some, None, refl, sym, ◌∙◌, ap, subst, arith}
-use Rattle.std.specs.Prelude.{◌&&◌, IsSome}
+use Rattle.std.specs.Prelude.{◌&&◌, ◌||◌, IsSome}
 use Rattle.std.proofs.lemmas.Bool.{not-true, or_from, or_parts}
 use Rattle.ds_base.specs.Accesses.{Access, Fetch, Read, Write}
 use Rattle.ds_base.specs.declared.processors.Arch.TheVariants.{V5}
@@ -8,7 +8,12 @@ use Rattle.ds_base.specs.declared.ticks.Tick.{Tick}
 use Rattle.arm_words.specs.declared.instructions.Instr.{Instr}
 use Rattle.arm_core.specs.Footprints.{AreOfData}
 use Rattle.arm_core.specs.Meanings.{meaning}
+use Rattle.arm_core.specs.Registers.{RegisterState}
 use Rattle.arm_core.specs.declared.touches.Reach.{Reach}
+use Rattle.arm_ops.specs.Meanings.{access_made, access_meaning, accesses_by}
+use Rattle.arm_ops.specs.Operations.{is_other, loads, operation_of}
+use Rattle.arm_ops.specs.declared.operations.DataAccess.{DataAccess}
+use Rattle.arm_ops.specs.declared.operations.Operation.{Operation}
 use Rattle.cp15_tcm.specs.Registers.{Cp15State}
 use Rattle.cp15_tcm.specs.TightlyCoupled.{in_dtcm, in_itcm, tcm_of}
 use Rattle.cp15_tcm.specs.declared.answers.Tcm.TheVariants.{Itcm, Dtcm, Past}
@@ -21,15 +26,15 @@ use Rattle.ds_runs.specs.Actors.{actor_of}
 use Rattle.ds_runs.specs.Runs.{due_at}
 use Rattle.ds_runs.specs.declared.actors.Actor as actor
 use Rattle.ds_machine.specs.Lagging.{any_observes, is_observed_past, is_observed_place}
-use Rattle.ds_machine.specs.Observing.{data_unobserved}
+use Rattle.ds_machine.specs.Observing.{data_unobserved, made_observed}
 use Rattle.ds_machine.specs.Private.{AllReachPrivate}
 use Rattle.ds_machine.specs.Sides.{data_accesses}
 use Rattle.ds_machine.specs.Reference.{due_by, dues_of}
 use Rattle.ds_machine.specs.PrivateSides.{SideOf, nine_side}
 use Rattle.ds_machine.specs.States.{MachineState}
 use Rattle.ds_machine.specs.Steps.{nine_reach, tick_of}
-use Rattle.ds_machine.specs.Touching.{GoesByWords, IsFootprint}
-use Rattle.ds_machine.proofs.DecodedStays.{same_word}
+use Rattle.ds_machine.specs.Touching.{GoesByWords, IsFootprint, instr_at}
+use Rattle.ds_machine.proofs.DecodedStays.{IsOne, accesses_known, one_by, same_word}
 use Rattle.ds_machine.proofs.DueTicks.{due_of_rank, low_rank}
 use Rattle.ds_machine.proofs.PlacesByWords.{are_rows, dtcm_same, itcm_same, row_facts, rows_of_nine}
 use Rattle.ds_machine.proofs.PrivatePlaces.{private_itself}
@@ -134,6 +139,37 @@ instr_observes_by s instr reach is =
     same_test (data_unobserved s reach) (any_observes r m.accesses)
     (λ h. none_by r m.accesses low (data_passes unobserved_side r reach.reads reach.writes reach.touch m.accesses (is.told base) (is.covers base) h))
     (λ h. data_passed unobserved_side r reach.reads reach.writes reach.touch m.accesses (is.told base) (is.covers base) (by_none r m.accesses low h))
+
+-- ---- by a decoded operation: an access is asked by its address
+
+or_none : (b : Bool) → (b || false) ≡ b
+or_none true = refl
+or_none false = refl
+
+one_observed : (r : NineReach) (w : Bool) (at : ℕ) (accesses : List Access) → IsOne w at accesses
+    → is_observed_past (tcm_of r.cp15 at w false) r.map.io.wramcnt at ≡ any_observes r accesses
+one_observed r false at accesses one = sym (ap (any_observes r) one.1 ∙ or_none (at_read r at))
+one_observed r true at accesses one = sym (ap (any_observes r) one.2 ∙ or_none (at_write r at))
+
+made_by : (s : MachineState) (registers : RegisterState) (access : Option DataAccess)
+    → made_observed s access ≡ any_observes (nine_reach (tick_of s.nine.processor) s) (accesses_by V5 registers access)
+made_by s registers None = refl
+made_by s registers (Some it) =
+    one_observed (nine_reach (tick_of s.nine.processor) s) (not (loads it.op)) it.to.address (access_meaning V5 registers it).accesses
+    (one_by V5 registers it.op it.rn it.rd it.to)
+
+pub operation_observes_by : (s : MachineState) (operation : Operation) → operation ≡ operation_of (instr_at s Nine) → is_other operation.op ≡ false
+    → made_observed s (access_made s.nine.processor.registers operation)
+    ≡ any_observes (nine_reach (tick_of s.nine.processor) s)
+    (data_accesses V5 (nine_side.base (nine_reach (tick_of s.nine.processor) s)) s.nine.processor.registers (instr_at s Nine))
+operation_observes_by s operation e known =
+    let r = nine_reach (tick_of s.nine.processor) s in
+    let registers = s.nine.processor.registers in
+    let instr = instr_at s Nine in
+    let other = subst (λ (o : Operation). is_other o.op ≡ false) e known in
+    made_by s registers (access_made registers operation)
+    ∙ ap (λ (o : Operation). any_observes r (accesses_by V5 registers (access_made registers o))) e
+    ∙ sym (ap (any_observes r) (accesses_known V5 (nine_side.base r) registers instr other))
 
 -- an actor that is due by its rank
 pub low_if_due : (s : MachineState) (rank : ℕ) → IsSome (due_at (dues_of s) rank) → rank < 24

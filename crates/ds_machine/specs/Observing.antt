@@ -1,8 +1,10 @@
-use Rattle.std.specs.Prelude.{ℕ, ◌||◌, ◌&&◌, not, Bool, true, false}
+use Rattle.std.specs.Prelude.{ℕ, ◌||◌, ◌&&◌, not, Bool, true, false, Option, None, Some}
 use Rattle.std.specs.List.{list_all}
 use Rattle.arm_core.specs.Footprints.{touched_bytes}
 use Rattle.arm_core.specs.declared.touches.Reach.{Reach}
 use Rattle.arm_core.specs.declared.touches.Touch.{Touch}
+use Rattle.arm_ops.specs.Operations.{loads}
+use Rattle.arm_ops.specs.declared.operations.DataAccess.{DataAccess}
 use Rattle.cp15_tcm.specs.TightlyCoupled.{tcm_of}
 use Rattle.ds_machine.specs.Lagging.{is_observed_past}
 use Rattle.ds_machine.specs.States.{MachineState}
@@ -22,3 +24,8 @@ all_unobserved s writing touch = list_all (is_unobserved_at s writing) (touched_
 
 abbrev pub data_unobserved : MachineState → Reach → Bool
 data_unobserved s reach = (not reach.reads || all_unobserved s false reach.touch) && (not reach.writes || all_unobserved s true reach.touch)
+
+-- the access of a decoded operation is of one, if it makes one
+abbrev pub made_observed : MachineState → Option DataAccess → Bool
+made_observed s None = false
+made_observed s (Some it) = is_observed_at s (not (loads it.op)) it.to.address

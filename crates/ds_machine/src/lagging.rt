@@ -1,8 +1,9 @@
 //! Whether an actor's next step observes geometry, which may lag until one does.
 
-ghost use Rattle.std.specs.Prelude.{◌≡◌, ◌<◌, ◌%◌, ◌^◌, Some, IsSome};
+ghost use Rattle.std.specs.Prelude.{◌≡◌, ◌<◌, ◌%◌, ◌^◌, false, Some, IfSome, IsSome};
 ghost use Rattle.std.specs.List.{list_all};
 ghost use Rattle.arm_core.specs.Footprints.{span};
+ghost use Rattle.arm_ops.specs.Operations.{is_other, operation_of, HasOperation};
 ghost use Rattle.arm_words.specs.Fields.{HasFields};
 ghost use Rattle.ds_base.specs.declared.processors.Arch.TheVariants.{V5};
 ghost use Rattle.ds_base.specs.declared.processors.Proc.TheVariants.{Nine};
@@ -10,9 +11,10 @@ ghost use Rattle.ds_dma.specs.States.{dma_due};
 ghost use Rattle.ds_map.specs.ObservedPorts as ports;
 ghost use Rattle.ds_machine.specs.Lagging as lagging;
 ghost use Rattle.ds_machine.specs.Lagging.{any_observes, channel_observes, nine_observes, observes_by};
-ghost use Rattle.ds_machine.specs.Observing.{all_unobserved, data_unobserved, is_unobserved_at, is_observed_at};
+ghost use Rattle.ds_machine.specs.Observing.{all_unobserved, data_unobserved, is_unobserved_at, is_observed_at, made_observed};
 ghost use Rattle.ds_machine.specs.Sides.{data_accesses};
 ghost use Rattle.ds_machine.specs.Reference.{dues_of, due_by};
+ghost use Rattle.ds_machine.specs.Touching.{instr_at};
 ghost use Rattle.ds_machine.specs.PrivateSides.{nine_side};
 ghost use Rattle.ds_machine.specs.Steps.{nine_reach, tick_of};
 ghost use Rattle.ds_runs.specs.Actors.{actor_of};
@@ -21,9 +23,10 @@ ghost use Rattle.ds_runs.specs.Runs.{due_at};
 use crate::parts::Parts;
 use arm_core::{Reach, Touch};
 use arm_exec::enters;
+use arm_ops::{DataAccess, Operation, access_made, is_other, loads};
 use arm_words::Instr;
 use cp15_tcm::Tcm;
-use ds_base::Proc;
+use ds_base::{Proc, Width};
 use ds_places::{Place, place};
 use ds_runs::Actor;
 
@@ -106,6 +109,43 @@ impl Parts {
         !self.is_data_unobserved(self.footprint_of(Proc::Nine, instr))
     }
 
+    /// What ARM9 fetches at r15 as an operation, where its decoder keeps it: it does where the step was tried just before.
+    fn kept_operation(&self) -> Option<&Operation>
+        ensures operation { IfSome result (λ operation. operation.now ≡ operation_of (instr_at self.now Nine)) }
+        ensures fields { IfSome result (λ operation. HasOperation operation.now) }
+    {
+        let s = &self.nine.processor.core.registers;
+        let at = s.pc();
+        if s.is_thumb() {
+            let half = self.fetch_of(Proc::Nine, at, Width::Half) % 0x1_0000;
+            return self.nine.decoder.kept_half(at, half as u16);
+        }
+        let word = self.fetch_of(Proc::Nine, at, Width::Word);
+        self.nine.decoder.kept_word(at, word)
+    }
+
+    /// Whether the access of a decoded operation of ARM9's is of an observed port, if it makes one.
+    fn is_made_observed(&self, access: Option<DataAccess>) -> bool
+        ensures { result ≡ made_observed self.now access }
+    {
+        match access {
+            Some(it) => self.is_observed(it.to.address, !loads(it.op)),
+            None => false,
+        }
+    }
+
+    /// Whether the access of what ARM9 fetches at r15, as an operation, is of an observed port.
+    #[tactic(auto, using(crate::proofs::ObservedTests::operation_observes_by))]
+    fn operation_observes(&self, operation: &Operation) -> bool
+        requires operation { operation.now ≡ operation_of (instr_at self.now Nine) }
+        requires fields { HasOperation operation.now }
+        requires known { is_other operation.now.op ≡ false }
+        ensures { result ≡ (let r = nine_reach (tick_of self.now.nine.processor) self.now in any_observes r
+            (data_accesses V5 (nine_side.base r) self.now.nine.processor.registers (instr_at self.now Nine))) }
+    {
+        self.is_made_observed(access_made(&self.nine.processor.core.registers, operation))
+    }
+
     /// Whether ARM9's next step observes geometry.
     fn nine_observes(&self) -> bool
         ensures { result ≡ nine_observes self.now }
@@ -115,6 +155,11 @@ impl Parts {
             self.line(Proc::Nine),
         ) {
             return false;
+        }
+        if let Some(operation) = self.kept_operation() {
+            if !is_other(operation) {
+                return self.operation_observes(operation);
+            }
         }
         match self.next_instr(Proc::Nine) {
             Some(instr) => self.instr_observes(&instr),

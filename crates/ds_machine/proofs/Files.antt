@@ -21,7 +21,7 @@ use Rattle.ds_machine.specs.Reference.{Shown, after_event, awake, due_by, dues_o
 use Rattle.ds_machine.specs.Sound.{HasSoundParts, IsSound}
 use Rattle.ds_machine.specs.States.{MachineState, with_file}
 use Rattle.ds_machine.specs.Statuses.{HasBothStatuses, left_by}
-use Rattle.ds_machine.specs.StepAnswers.{stepped_of}
+use Rattle.ds_machine.specs.StepAnswers.{Steps, stepped_of}
 use Rattle.ds_machine.specs.Steps.{ended, goes_on, machine_settled, processor_of, tick_of, wakes, with_io, woken_one}
 use Rattle.ds_machine.specs.Touched.{CartFile, StepsKeepFile, machine_graft, step_with, untouched_by}
 use Rattle.ds_machine.specs.TurnSteps.{BelongsToTurn, HasLimit, IsFirst, MayAct, MayStep, TakesSteps, more_steps, no_steps}
@@ -129,6 +129,9 @@ module _ (file : List ℕ) where
   stepped_put old new answers.Made = refl
   stepped_put old new (answers.Frame swapped) = refl
   stepped_put old new (answers.Stopped left) = refl
+
+  pub steps_put : (proc : Proc) (old new : MachineState) (done : answer.Done) → Steps (rank_of proc) old done new → Steps (rank_of proc) (put old) done (put new)
+  steps_put proc old new done h = reference_put (rank_of proc) old (no_card proc) ∙ ap (step_with put) h ∙ stepped_put old new done
 
   -- so what a step comes to on a machine without its file, it comes to with it
   pub awake_with : (rank : ℕ) (a : actor.Actor) (tick : Tick) (old new : MachineState) (done : answer.Done) → is_card a ≡ false

@@ -53,7 +53,7 @@ comes_so Seven n other h = lt_of n other h
 tick : ℕ → Tick
 tick n = record { 0 = n }
 
-actor_is : (proc : Proc) → actor_of (rank_of proc) ≡ Processor proc
+pub actor_is : (proc : Proc) → actor_of (rank_of proc) ≡ Processor proc
 actor_is Nine = refl
 actor_is Seven = refl
 

@@ -24,6 +24,7 @@ pub mod PortReads
 pub mod SteadyPorts
 pub mod OwnRemaining
 pub mod OwnSteps
+pub mod OwnTurns
 pub mod InnerLaw
 pub mod PrivateAccesses
 pub mod PrivateUnobserved

@@ -1,4 +1,4 @@
-use Rattle.std.specs.Prelude.{ℕ, ◌≡◌, [], ◌∷◌}
+use Rattle.std.specs.Prelude.{ℕ, ◌≡◌, [], ◌∷◌, Option, Some, None}
 use Rattle.ds_base.specs.declared.left_out.LeftOut.{LeftOut}
 use Rattle.ds_base.specs.declared.ticks.Due.{Due}
 use Rattle.ds_runs.specs.Runs.{MachineStep, Makes, Stops, IsLeast}
@@ -15,6 +15,11 @@ abbrev pub stepped_of : MachineState → Done → MachineState → MachineStep M
 stepped_of old Made new = Makes new []
 stepped_of old (Frame swapped) new = Makes new (shown_at (scan_due old.io.video.scan) new swapped ∷ [])
 stepped_of old (Stopped left) new = Stops left new
+
+-- what a step that makes no frame whole came to, by its stop, if it stopped the machine
+abbrev pub done_of : Option LeftOut → Done
+done_of None = Made
+done_of (Some left) = Stopped left
 
 -- the actor of a rank took its step
 abbrev pub Steps : ℕ → MachineState → Done → MachineState → Type 0

@@ -38,7 +38,8 @@
 //!   `go_fast` goes.
 //! - `acting` is the least of all that are due but quiet geometry (`IsActing`); `observes` tells exactly whether an actor's next step
 //!   observes geometry (`observes_by`); `catch_up` takes exactly the steps of quiet geometry before a place in the order of steps, before
-//!   which nobody acts (`CatchesUp`), and `catch_up_before` does so before a step that observes geometry (`CatchesUpFor`).
+//!   which nobody acts (`CatchesUp`), and `catch_up_before` does so before a step that observes geometry (`CatchesUpFor`). `step_of_turn` does
+//!   this, and then takes a processor's step.
 //!
 //! Proved of bytes, by one format (`machine_format`), which is the order of the fields with each field's rule; the formats of the units are their
 //! own:

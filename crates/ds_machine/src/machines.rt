@@ -1,6 +1,6 @@
 //! The machine.
 
-ghost use Rattle.std.specs.Prelude.{◌≡◌, ◌↔◌, ◌<◌, ◌≤◌, ◌^◌, false, true, slice_index, length, IfOk, IfSome, IsSome};
+ghost use Rattle.std.specs.Prelude.{◌≡◌, ◌↔◌, ◌<◌, ◌≤◌, ◌^◌, false, true, slice_index, length, IfOk, IfSome, IsSome, None};
 ghost use Rattle.ds_base.specs.Memories.{memory_size};
 ghost use Rattle.ds_card.specs.Cards.{IsCard};
 ghost use Rattle.ds_ipc.specs.Ipcs.{AreSides};
@@ -14,25 +14,26 @@ ghost use Rattle.ds_machine.specs.Booted.{machine_booted};
 ghost use Rattle.ds_machine.specs.Frames.{framed_of};
 ghost use Rattle.ds_machine.specs.Lagging.{observes_by, CatchesUp, CatchesUpFor, ComesBeforeAll};
 ghost use Rattle.ds_machine.specs.Inspections.{memory_of, registers_of, seen_of};
-ghost use Rattle.ds_machine.specs.Private.{IsFence, IsPrivate};
+ghost use Rattle.ds_machine.specs.Private.{rank_of, IsFence, IsPrivate};
 ghost use Rattle.ds_machine.specs.TurnSteps.{BelongsToTurn, HasLimit, IsFirst, MayAct, MayStep, TakesSteps};
 ghost use Rattle.ds_machine.specs.declared.answers.Private.TheVariants.{Yes};
 ghost use Rattle.ds_machine.specs.Reference.{dues_of};
 ghost use Rattle.ds_machine.specs.Sound.{HasSoundParts};
-ghost use Rattle.ds_machine.specs.StepAnswers.{IsDue, Steps};
+ghost use Rattle.ds_machine.specs.StepAnswers.{done_of, IsDue, Steps};
 ghost use Rattle.ds_machine.specs.Counting.{last_limit, IsRunning, RunsAfter, RunsOnWithEach, RunsWithSome};
-ghost use Rattle.ds_machine.specs.States.{with_file};
+ghost use Rattle.ds_machine.specs.States.{with_file, MachineState};
 ghost use Rattle.ds_machine.specs.Statuses.{HasBothStatuses};
 ghost use Rattle.ds_machine.specs.Steps.{processor_of, tick_of};
 
 mod saved;
 
 use crate::answers::{Done, Private, Seen};
+use crate::fences;
 use crate::going::Gone;
 use crate::next_events::{First, NextEvent};
 use crate::parts::Parts;
 use arm_exec::enters;
-use ds_base::{Due, Keys, Memory, Proc, Tick, Width};
+use ds_base::{Due, Keys, LeftOut, Memory, Proc, Tick, Width};
 use ds_header::Cart;
 use ds_runs::{Actor, earlier_than};
 use gx_geometry::Lists;
@@ -116,6 +117,27 @@ impl Machine {
         let next_event = self.parts.next_event();
         self.next_event = next_event;
         done
+    }
+
+    /// A processor's step of a turn, on a machine that goes on: it is the least that acts, or may be taken before its turn. Before it, where it
+    /// observes geometry, the steps of quiet geometry are taken that are due before it. A stop is put where stops are kept. The machine is read
+    /// together with the cartridge's file, at which no processor's step looks.
+    #[inline(always)]
+    pub fn step_of_turn(&mut self, cart: &Cart, proc: Proc, tick: Tick, stop: &mut Option<LeftOut>)
+        requires running { IsRunning last_limit (with_file cart.now self.old) }
+        requires early { tick.0 ≤ 2 ^ 56 }
+        requires may { MayAct self.old tick (rank_of proc) }
+        requires none { stop.old ≡ None }
+        ensures step { (caught : MachineState) × CatchesUpFor tick.0 (rank_of proc) (with_file cart.now self.old) caught
+            × Steps (rank_of proc) caught (done_of stop.new) (with_file cart.now self.new) }
+        ensures running { RunsAfter (done_of stop.new) (with_file cart.now self.new) }
+    {
+        let _ = cart;
+        let rank = fences::rank_of(proc);
+        let _caught = self.parts.catch_up_before(tick, rank);
+        self.parts.step_own(proc, stop);
+        let next_event = self.parts.next_event();
+        self.next_event = next_event;
     }
 
     /// The processor that is the least acting actor and due below a limit, where that is known at once; None where it isn't, or where another actor

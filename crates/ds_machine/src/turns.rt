@@ -1,6 +1,6 @@
 //! The step of the actor that is due, and those of the processors.
 
-ghost use Rattle.std.specs.Prelude.{◌≡◌, ◌<◌, ◌≤◌, ◌+◌, ◌*◌, ◌^◌, Some, true};
+ghost use Rattle.std.specs.Prelude.{◌≡◌, ◌<◌, ◌≤◌, ◌+◌, ◌*◌, ◌^◌, Some, None, true};
 ghost use Rattle.arm_core.specs.declared.outcomes.Stepped.TheVariants.{Cost};
 ghost use Rattle.ds_base.specs.declared.processors.Proc.{Proc};
 ghost use Rattle.ds_runs.specs.Actors.{IsNumbered};
@@ -10,13 +10,15 @@ ghost use Rattle.ds_machine.specs.GuardedSteps.{IsFreeFor};
 ghost use Rattle.ds_machine.specs.Processors.{stop_in};
 ghost use Rattle.ds_machine.specs.Reference.{awake, due_by, step_by};
 ghost use Rattle.ds_machine.specs.States.{with_file};
-ghost use Rattle.ds_machine.specs.StepAnswers.{stepped_of, Steps};
+ghost use Rattle.ds_machine.specs.Private as private;
+ghost use Rattle.ds_machine.specs.StepAnswers.{done_of, stepped_of, Steps};
 ghost use Rattle.ds_machine.specs.Counting.{RunsWithSome};
 ghost use Rattle.ds_machine.specs.Touching.{DataStaysNear, DataStaysPrivate};
 ghost use Rattle.ds_base.specs.Processors.{ticks_per_clock};
 ghost use Rattle.ds_machine.specs.Steps.{in_ticks, machine_concluded, goes_on, gone_by, is_halted, line_of, due_past_unit, outcome_of, processor_of, wakes, went_on, with_processor, woken, woken_one, ended};
 
 use crate::answers::Done;
+use crate::fences::rank_of;
 use crate::parts::Parts;
 use crate::processors::{past_unit, ticks_of};
 use crate::steps::{Came, Fast, take_fast_in_view, take_in_view};
@@ -24,6 +26,17 @@ use arm_core::Stepped;
 use ds_base::{LeftOut, Proc, Stop, Tick};
 use ds_map::{NineView, SevenView};
 use ds_runs::Actor;
+
+/// What a step that makes no frame whole came to, by its stop, if it stopped the machine.
+#[inline(always)]
+fn done_of(stop: Option<LeftOut>) -> Done
+    ensures { result ≡ done_of stop }
+{
+    match stop {
+        Some(left) => Done::Stopped(left),
+        None => Done::Made,
+    }
+}
 
 impl Parts {
     /// The step of the least actor, or of the least acting one, where its step doesn't observe geometry, or of a processor that may step before its
@@ -55,7 +68,11 @@ impl Parts {
             ≡ stepped_of (with_file file.now self.old) result (with_file file.now self.new) }
     {
         match actor {
-            Actor::Processor(proc) => self.step_processor(rank, proc, tick),
+            Actor::Processor(proc) => {
+                let mut stop = None;
+                self.step_processor(rank, proc, tick, &mut stop);
+                done_of(stop)
+            }
             Actor::KeyScript => self.step_script(rank, tick),
             Actor::Video => self.step_video(rank, tick),
             Actor::Dma { proc, channel } => self.step_channel(rank, proc, channel, tick),
@@ -67,19 +84,34 @@ impl Parts {
         }
     }
 
-    /// A processor's step.
+    /// The step of a processor that may step, as it is or before its turn, on a machine that goes on. A stop is put where stops are kept: an answer
+    /// that carried it would be moved at each step.
+    #[inline(always)]
+    pub fn step_own(&mut self, proc: Proc, stop: &mut Option<LeftOut>)
+        requires may { MayStep self.old (private.rank_of proc) }
+        requires running { RunsWithSome self.old }
+        requires none { stop.old ≡ None }
+        ensures { Steps (private.rank_of proc) self.old (done_of stop.new) self.new }
+    {
+        if let Some(tick) = self.processor_due(proc) {
+            self.step_processor(rank_of(proc), proc, tick, stop);
+        }
+    }
+
+    /// A processor's step; a stop is put where stops are kept.
     #[inline(always)]
     #[tactic(auto, using(crate::proofs::GuardedSteps::free_then))]
-    fn step_processor(&mut self, rank: u8, proc: Proc, tick: Tick) -> Done
+    fn step_processor(&mut self, rank: u8, proc: Proc, tick: Tick, stop: &mut Option<LeftOut>)
         requires due { due_by (Actor.Processor proc) self.old ≡ Some tick }
         requires early { tick.0 ≤ 2 ^ 56 }
         requires counted { (processor_of self.old proc).steps ≤ 2 ^ 61 }
-        ensures { awake (Some tick) (step_by rank (Actor.Processor proc) self.old) ≡ stepped_of self.old result self.new }
+        requires none { stop.old ≡ None }
+        ensures { awake (Some tick) (step_by rank (Actor.Processor proc) self.old) ≡ stepped_of self.old (done_of stop.new) self.new }
     {
         self.laws();
         let line = self.line(proc);
         let came = self.take(proc, tick, line);
-        self.conclude(rank, proc, tick, came)
+        self.conclude(rank, proc, tick, came, stop);
     }
 
     /// Takes a processor's step at a tick, but for its cost.
@@ -218,24 +250,24 @@ impl Parts {
 
     /// Concludes a processor's step by what it came to.
     #[inline(always)]
-    fn conclude(&mut self, rank: u8, proc: Proc, tick: Tick, came: Came) -> Done
+    fn conclude(&mut self, rank: u8, proc: Proc, tick: Tick, came: Came, stop: &mut Option<LeftOut>)
         requires tick { tick.0 ≤ 2 ^ 56 }
         requires early { (processor_of self.old proc).due ≤ 2 ^ 56 }
         requires counted { (processor_of self.old proc).steps ≤ 2 ^ 61 }
+        requires none { stop.old ≡ None }
         ensures { awake (Some tick) (machine_concluded rank proc self.old (in_ticks proc came.waits came.stepped))
-            ≡ stepped_of self.old result self.new }
+            ≡ stepped_of self.old (done_of stop.new) self.new }
     {
         match self.go_by(proc, came) {
-            None => {
-                self.end_step(tick);
-                Done::Made
+            None => self.end_step(tick),
+            Some(left) => {
+                *stop = Some(LeftOut {
+                    kind: left.kind,
+                    tick: Tick(self.processor(proc).due),
+                    rank,
+                    value: left.value,
+                });
             }
-            Some(stop) => Done::Stopped(LeftOut {
-                kind: stop.kind,
-                tick: Tick(self.processor(proc).due),
-                rank,
-                value: stop.value,
-            }),
         }
     }
 

@@ -1,32 +1,26 @@
-use Rattle.std.proofs.Common.{ℕ, ◌≡◌, ◌≢◌, ◌<◌, ◌≤◌, ◌*◌, ◌⊎◌, inl, inr, List, ◌∷◌, Option, Some, None, true, true≢false, refl, sym, ◌∙◌, ap, subst, arith, []}
+use Rattle.std.proofs.Common.{ℕ, ◌≡◌, ◌<◌, ◌≤◌, ◌*◌, ◌⊎◌, inl, inr, Option, Some, None, true, true≢false, refl, sym, ◌∙◌, ap, subst, arith, []}
 use Rattle.std.specs.Option.{is_some}
 use Rattle.ds_base.specs.declared.left_out.LeftOut.{LeftOut}
 use Rattle.ds_base.specs.declared.processors.Proc.{Proc}
 use Rattle.ds_base.specs.declared.ticks.Tick.{Tick}
-use Rattle.ds_runs.specs.Actors.{actor_of}
 use Rattle.ds_runs.specs.Runs.{IsLeast, Makes, Runs}
 use Rattle.ds_runs.specs.Runs as runs
 use Rattle.ds_runs.specs.Schedules.{places_remaining}
 use Rattle.ds_machine.specs.Acting.{acting_dues}
 use Rattle.ds_machine.specs.Counting.{IsRunning}
 use Rattle.ds_machine.specs.Frames.{last_frame, last_lists}
-use Rattle.ds_machine.specs.Lagging.{CatchesUpFor, observes_by}
+use Rattle.ds_machine.specs.Lagging.{CatchesUpFor}
 use Rattle.ds_machine.specs.Private.{rank_of}
-use Rattle.ds_machine.specs.Reference.{Shown, next_shown, processor_due, reference, reference_step}
+use Rattle.ds_machine.specs.Reference.{processor_due, reference, reference_step}
 use Rattle.ds_machine.specs.Sound.{IsSound}
-use Rattle.ds_machine.specs.StepAnswers.{Steps}
 use Rattle.ds_machine.specs.States.{MachineState, counts_of}
 use Rattle.ds_machine.specs.Steps.{processor_of, tick_of}
 use Rattle.ds_machine.specs.TurnSteps.{BelongsToTurn, IsLeastBelow, MayAct, TakesSteps, no_steps, more_steps, own_remaining}
-use Rattle.ds_machine.specs.declared.answers.Done as answer
-use Rattle.ds_machine.specs.declared.answers.Done.TheVariants.{Made, Frame, Stopped}
 use Rattle.ds_machine.proofs.ActingDues.{acting_processor}
 use Rattle.ds_machine.proofs.ActingPlaces.{acted_fewer, acted_no_more}
 use Rattle.ds_machine.proofs.ActingSteps.{ActedLeaves, ActedStops, acted_keeps, acted_stops, acting_stops}
-use Rattle.ds_machine.proofs.CatchingUp.{caught_for, caught_so}
 use Rattle.ds_machine.proofs.DueTicks.{own_tick}
-use Rattle.ds_machine.proofs.OwnRemaining.{still_due, turn_silent, turn_steps_fall}
-use Rattle.ds_machine.proofs.ProcessorSteps.{none_shown}
+use Rattle.ds_machine.proofs.OwnRemaining.{turn_steps_fall}
 use Rattle.ds_machine.proofs.Running.{few_where_stops}
 use Rattle.ds_machine.proofs.TurnSteps.{belongs_acted, belongs_acts, belongs_below, belongs_stops, running_along, takes_along, takes_run}
 use Rattle.run_ahead.specs.Inside.{TookStretch}
@@ -43,9 +37,6 @@ takes_twice until proc a b c first (more_steps start before caught next earlier 
 pub took_twice : (until : ℕ) (proc : Proc) (a b c : MachineState) (stop : Option LeftOut) → TakesSteps until proc a b → TookStretch until proc b stop c → TookStretch until proc a stop c
 took_twice until proc a b c None first then = (takes_twice until proc a b c first then.0, then.1)
 took_twice until proc a b c (Some left) first then = (then.0, takes_twice until proc a b then.0 first then.1, then.2, then.3)
-
-none_of_some : (shown : Shown) → (let some : List Shown = shown ∷ [] in some) ≡ [] → ⊥
-none_of_some shown e = none_shown shown (sym e)
 
 -- there is a stop where one is told
 pub some_of : (stop : Option LeftOut) → is_some stop ≡ true → (left : LeftOut) × (stop ≡ Some left)
@@ -68,16 +59,6 @@ module _ (until : ℕ) (s : MachineState) (proc : Proc) (rank : ℕ) (tick : Tic
   pub told_catches : (caught : MachineState) → CatchesUpFor tick.0 rank s caught → CatchesUpFor (processor_of s proc).due (rank_of proc) s caught
   told_catches caught k =
       subst (λ (t : Tick). CatchesUpFor t.0 (rank_of proc) s caught) told_tick (subst (λ (r : ℕ). CatchesUpFor tick.0 r s caught) is k)
-
-  -- where the step doesn't stop it makes the next machine: a processor's puts out nothing
-  pub told_makes : BelongsToTurn until s proc → (caught next : MachineState) (done : answer.Done) → IsSound s → CatchesUpFor tick.0 rank s caught → Steps rank caught done next → ((left : LeftOut) → done ≢ Stopped left)
-      → reference_step (rank_of proc) caught ≡ Makes next []
-  told_makes belongs caught next Made sound k h goes = sym (ap (λ (r : ℕ). reference_step r caught) is) ∙ h
-  told_makes belongs caught next (Frame swapped) sound k h goes =
-      let due = still_due s caught proc (caught_so tick.0 rank s caught sound (caught_for (observes_by (actor_of rank) s) tick.0 rank s caught k)).dues ∙ told_due belongs in
-      absurd (none_of_some (next_shown caught next swapped)
-      (turn_silent caught next proc tick (next_shown caught next swapped ∷ []) due (sym (ap (λ (r : ℕ). reference_step r caught) is) ∙ h)))
-  told_makes belongs caught next (Stopped left) sound k h goes = absurd (goes left refl)
 
 -- ---- steps one after another
 

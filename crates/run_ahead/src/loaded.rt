@@ -1,6 +1,6 @@
 //! A machine with its cartridge.
 
-ghost use Rattle.std.specs.Prelude.{◌≡◌, ◌↔◌, ◌<◌, ◌≤◌, ◌+◌, ◌*◌, ◌^◌, ℕ, false, true, slice_index, IfOk, IfSome, OnOk};
+ghost use Rattle.std.specs.Prelude.{◌≡◌, ◌↔◌, ◌<◌, ◌≤◌, ◌+◌, ◌*◌, ◌^◌, ℕ, false, true, slice_index, IfOk, IfSome, None, OnOk};
 ghost use Rattle.ds_state.specs.Formats.{bytes_written};
 ghost use Rattle.ds_state.specs.Reading.{GivesIn, read_format};
 ghost use Rattle.run_ahead.specs.Saved.{format_behind};
@@ -13,15 +13,16 @@ ghost use Rattle.ds_machine.specs.Booted.{machine_booted};
 ghost use Rattle.ds_machine.specs.Counting.{last_limit, IsRunning, RunsAfter};
 ghost use Rattle.ds_machine.specs.Lagging.{CatchesUp, CatchesUpFor, ComesBeforeAll};
 ghost use Rattle.ds_machine.specs.Sound.{HasSoundParts};
-ghost use Rattle.ds_machine.specs.States.{with_file};
+ghost use Rattle.ds_machine.specs.Private.{rank_of};
+ghost use Rattle.ds_machine.specs.States.{with_file, MachineState};
 ghost use Rattle.ds_machine.specs.Statuses.{HasBothStatuses};
-ghost use Rattle.ds_machine.specs.StepAnswers.{Steps};
+ghost use Rattle.ds_machine.specs.StepAnswers.{done_of, Steps};
 ghost use Rattle.ds_machine.specs.Steps.{processor_of, tick_of};
 ghost use Rattle.ds_machine.specs.TurnSteps.{BelongsToTurn, HasLimit, IsFirst, MayAct, MayStep, TakesSteps};
 ghost use Rattle.gx_fifo.specs.GxStates.{IsGx};
 
 use crate::heads::Head;
-use ds_base::{Due, Keys, Proc, Tick};
+use ds_base::{Due, Keys, LeftOut, Proc, Tick};
 use ds_header::Cart;
 use ds_machine::{Done, First, Machine};
 use ds_state::{Packer, Unpacked, Unpacker};
@@ -144,6 +145,20 @@ impl Loaded {
         ensures running { RunsAfter result self.new }
     {
         self.machine.step(&self.cart, rank)
+    }
+
+    /// A processor's step of a turn, before which, where it observes geometry, geometry catches up.
+    #[inline(always)]
+    pub fn step_of_turn(&mut self, proc: Proc, tick: Tick, stop: &mut Option<LeftOut>)
+        requires running { IsRunning last_limit self.old }
+        requires early { tick.0 ≤ 2 ^ 56 }
+        requires may { MayAct self.old tick (rank_of proc) }
+        requires none { stop.old ≡ None }
+        ensures step { (caught : MachineState) × CatchesUpFor tick.0 (rank_of proc) self.old caught
+            × Steps (rank_of proc) caught (done_of stop.new) self.new }
+        ensures running { RunsAfter (done_of stop.new) self.new }
+    {
+        self.machine.step_of_turn(&self.cart, proc, tick, stop);
     }
 
     /// A processor takes steps of its turn with a limit, while they are of the fast path. The answer is whether its turn is over.

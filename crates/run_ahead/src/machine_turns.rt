@@ -11,7 +11,7 @@ ghost use Rattle.run_ahead.specs.Inside.{HasProcessor, TookSlowly, TookStretch, 
 
 use crate::loaded::Loaded;
 use ds_base::{Due, LeftOut, Proc, Tick};
-use ds_machine::{Done, First, rank_of};
+use ds_machine::{Done, First};
 use ds_runs::Actor;
 
 /// The processor of a rank, where it is one's.
@@ -56,16 +56,12 @@ fn step_slowly(
     if !machine.belongs_by(proc, until, limit) {
         return Slow::Over;
     }
-    let rank = rank_of(proc);
     let tick = machine.tick_of(proc);
-    machine.catch_up_before(tick, rank);
-    match machine.step(rank) {
-        Done::Stopped(left) => {
-            *stop = Some(left);
-            Slow::Stopped
-        }
-        _ => Slow::Took,
+    machine.step_of_turn(proc, tick, stop);
+    if stop.is_none() {
+        return Slow::Took;
     }
+    Slow::Stopped
 }
 
 /// Takes a processor's steps that belong to its turn with a limit, one after another, up to the first that doesn't, or to one that stops the machine,

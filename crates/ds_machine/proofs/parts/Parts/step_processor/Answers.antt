@@ -1,3 +1,4 @@
+use Rattle.ds_machine.specs.StepAnswers.{done_of}
 use Rattle.ds_machine.specs.Steps.{in_ticks}
 use Rattle.ds_machine.proofs.DueTicks.{own_tick}
 use Rattle.ds_machine.proofs.ProcessorSteps.{reached_early, reached_few, step_concluded}
@@ -15,5 +16,5 @@ conclude-requires-clause-counted c =
 pub returns : goal.returns
 returns c =
     let s = c.args.self.now in
-    step_concluded c.args.rank c.args.proc c.args.tick s c.take-came.new.self c.conclude.new.self (in_ticks c.args.proc c.take-came.result.waits c.take-came.result.stepped) c.conclude.result
+    step_concluded c.args.rank c.args.proc c.args.tick s c.take-came.new.self c.conclude.new.self (in_ticks c.args.proc c.take-came.result.waits c.take-came.result.stepped) (done_of c.conclude.new.stop)
     (own_tick s c.args.proc c.args.tick c.requires.due) c.take-came.ensures.machine c.take-came.ensures.stepped c.conclude.ensures

@@ -176,31 +176,37 @@ cost_ends s rank proc tick clocks sound settled asleep blocked =
     ∙ ap (λ (m : MachineState). (let step : MachineStep MachineState Shown LeftOut = Makes m [] in step)) (end_stays tick next (subst IsIo (sym io) sound) (ap is_settled io ∙ settled)
     (λ who. ap (λ (u : IoState). (io_of u who).halted && shares_bit (io_of u who).irq) io ∙ asleep who))
 
-pub cost_fast : (next_event : NextEvent) (s : MachineState) (rank : ℕ) (proc : Proc) (tick : Tick) (clocks : ℕ) → IsIo s.io → IsNextEvent next_event s → 0 < next_event.events_until.0 → is_blocked s proc ≡ false
+pub cost_fast : (s : MachineState) (rank : ℕ) (proc : Proc) (tick : Tick) (clocks : ℕ) → IsIo s.io → is_settled s.io ≡ true → AreAsleep s → is_blocked s proc ≡ false
     → awake (Some tick) (machine_concluded rank proc s (Cost clocks)) ≡ stepped_of s answers.Made (with_processor proc s (went_on clocks false (processor_of s proc)))
-cost_fast next_event s rank proc tick clocks sound is some blocked = cost_ends s rank proc tick clocks sound (is.settled some) (is.asleep some) blocked
+cost_fast s rank proc tick clocks sound settled asleep blocked = cost_ends s rank proc tick clocks sound settled asleep blocked
 
 -- what is kept stays at it
 pub cost_keeps : (next_event : NextEvent) (s next : MachineState) (proc : Proc) (p : ProcessorState) → IsNextEvent next_event s → next ≡ with_processor proc s p → IsNextEvent next_event next
 cost_keeps next_event s next proc p is e = subst (IsNextEvent next_event) (sym e) (kept_stays next_event s (with_processor proc s p) is (put_beside proc s p))
 
 -- and at the accesses before it, which leave the units
+pub reach_beside : (s next : MachineState) (proc : Proc) (now : Tick) → next ≡ (outcome_of proc now s).machine → next.io ≡ s.io → Beside s next
+reach_beside s next proc now e io = record { io = io; keys = ap (λ (m : MachineState). m.keys) e ∙ same_keys proc } where
+  same_keys : (proc : Proc) → (outcome_of proc now s).machine.keys ≡ s.keys
+  same_keys Nine = refl
+  same_keys Seven = refl
+
 pub reach_keeps : (next_event : NextEvent) (s next : MachineState) (proc : Proc) (now : Tick) → IsNextEvent next_event s → next ≡ (outcome_of proc now s).machine → next.io ≡ s.io → IsNextEvent next_event next
-reach_keeps next_event s next proc now is e io =
-    kept_stays next_event s next is (record { io = io; keys = ap (λ (m : MachineState). m.keys) e ∙ same_keys proc }) where
-      same_keys : (proc : Proc) → (outcome_of proc now s).machine.keys ≡ s.keys
-      same_keys Nine = refl
-      same_keys Seven = refl
+reach_keeps next_event s next proc now is e io = kept_stays next_event s next is (reach_beside s next proc now e io)
+
+-- who is asleep before them is so after them
+pub asleep_by : (s next : MachineState) → next.io ≡ s.io → AreAsleep s → AreAsleep next
+asleep_by s next io asleep = λ proc. ap (λ (u : IoState). (io_of u proc).halted && shares_bit (io_of u proc).irq) io ∙ asleep proc
 
 -- what isn't blocked before them isn't blocked after them
 pub free_stays : (proc : Proc) (s next : MachineState) → next.io ≡ s.io → is_blocked s proc ≡ false → is_blocked next proc ≡ false
 free_stays proc s next io free = ap (λ (u : IoState). is_held u proc) io ∙ free
 
 -- the whole of it
-pub made_fast : (next_event : NextEvent) (s m next : MachineState) (rank : ℕ) (proc : Proc) (tick : Tick) (clocks : ℕ) → IsIo m.io → IsNextEvent next_event m → 0 < next_event.events_until.0 → is_blocked m proc ≡ false
+pub made_fast : (s m next : MachineState) (rank : ℕ) (proc : Proc) (tick : Tick) (clocks : ℕ) → IsIo m.io → is_settled m.io ≡ true → AreAsleep m → is_blocked m proc ≡ false
     → tick ≡ tick_of (processor_of s proc) → m ≡ (outcome_of proc tick s).machine → Cost clocks ≡ (outcome_of proc tick s).stepped
     → next ≡ with_processor proc m (went_on clocks false (processor_of m proc))
     → awake (Some tick) (step_by rank (Processor proc) s) ≡ stepped_of s answers.Made next
-made_fast next_event s m next rank proc tick clocks sound is some blocked at machine stepped e =
+made_fast s m next rank proc tick clocks sound settled asleep blocked at machine stepped e =
     step_concluded rank proc tick s m next (Cost clocks) answers.Made at machine stepped
-    (cost_fast next_event m rank proc tick clocks sound is some blocked ∙ ap (λ (x : MachineState). stepped_of m answers.Made x) (sym e))
+    (cost_fast m rank proc tick clocks sound settled asleep blocked ∙ ap (λ (x : MachineState). stepped_of m answers.Made x) (sym e))

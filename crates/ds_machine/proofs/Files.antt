@@ -24,10 +24,10 @@ use Rattle.ds_machine.specs.Statuses.{HasBothStatuses, left_by}
 use Rattle.ds_machine.specs.StepAnswers.{Steps, stepped_of}
 use Rattle.ds_machine.specs.Steps.{ended, goes_on, machine_settled, processor_of, tick_of, wakes, with_io, woken_one}
 use Rattle.ds_machine.specs.Touched.{CartFile, StepsKeepFile, machine_graft, step_with, untouched_by}
-use Rattle.ds_machine.specs.TurnSteps.{BelongsToTurn, HasLimit, IsFirst, MayAct, MayStep, TakesSteps, more_steps, no_steps}
+use Rattle.ds_machine.specs.TurnSteps.{BelongsToTurn, HasEnds, HasLimit, IsEnd, MayAct, MayStep, TakesSteps, due_or_never, more_steps, no_steps}
 use Rattle.ds_machine.specs.declared.answers.Done as answer
 use Rattle.ds_machine.specs.declared.answers.Done.TheVariants as answers
-use Rattle.ds_machine.specs.declared.next_events.First.{First}
+use Rattle.ds_machine.specs.declared.next_events.Ends.{Ends}
 use Rattle.ds_machine.proofs.Apart.{picked}
 use Rattle.ds_machine.proofs.FenceFirsts.{fences_as}
 use Rattle.ds_machine.proofs.Running.{running_taken, steps_keep_running}
@@ -211,12 +211,16 @@ module _ (file : List ℕ) where
   unfolding acting_dues
   limit_put until s proc limit has = record { free = has.free; first = has.first }
 
-  pub is_first_put : (until : ℕ) (s : MachineState) (first : First) → IsFirst until s first → IsFirst until (put s) first
+  pub end_put : (until : ℕ) (s : MachineState) (end : ℕ) → IsEnd until s end → IsEnd until (put s) end
   unfolding acting_dues
-  is_first_put until s first is = record {
-    least = record { tick = is.least.tick; least = is.least.least; below = is.least.below };
-    limit = limit_put until s first.proc first.limit is.limit;
-  }
+  end_put until s end is = is
+
+  pub never_put : (s : MachineState) (proc : Proc) → due_or_never (put s) proc ≡ due_or_never s proc
+  never_put s Nine = refl
+  never_put s Seven = refl
+
+  pub ends_put : (until : ℕ) (s : MachineState) (ends : Ends) → HasEnds until s ends → HasEnds until (put s) ends
+  ends_put until s ends has = record { end = λ some. end_put until s ends.end (has.end some); nine = has.nine; seven = has.seven }
 
   -- ---- geometry catches up, and a processor takes its turn
 

@@ -1,7 +1,6 @@
-use Rattle.std.proofs.Common.{ℕ, ◌≡◌, ◌≢◌, ◌<◌, ◌≤◌, ◌-◌, ◌^◌, ◌⊎◌, inl, inr, if◌then◌else◌, min, nat_lt, Bool, true, false, List, ◌∷◌, Option, Some, refl, sym, ◌∙◌, ap, subst, arith, []}
+use Rattle.std.proofs.Common.{ℕ, ◌≡◌, ◌≢◌, ◌<◌, ◌≤◌, ◌-◌, ◌^◌, ◌⊎◌, inl, inr, if◌then◌else◌, Bool, true, false, List, ◌∷◌, Option, Some, refl, sym, ◌∙◌, ap, subst, arith, []}
 use Rattle.std.proofs.lemmas.Option.{same_Some}
-use Rattle.std.proofs.lemmas.Bool.{and_cases, and_from, and_left, and_parts, and_right}
-use Rattle.ds_base.proofs.Choices.{is_le, is_lt, isnt_le, isnt_lt, le_of, lt_cases, lt_of, lt_or_same, not_le, not_lt, same_or_not}
+use Rattle.ds_base.proofs.Choices.{lt_or_same, same_or_not}
 use Rattle.ds_base.specs.declared.processors.Proc.{Proc}
 use Rattle.ds_base.specs.declared.processors.Proc.TheVariants.{Nine, Seven}
 use Rattle.ds_base.specs.declared.ticks.Tick.{Tick}
@@ -17,7 +16,7 @@ use Rattle.ds_runs.proofs.Lists.{within}
 use Rattle.ds_machine.specs.Acting.{acting_dues}
 use Rattle.ds_machine.specs.Lagging as geometry
 use Rattle.ds_machine.specs.Lagging.{CatchesUpFor, CatchesUpIf, TakesGeometry, observes_by}
-use Rattle.ds_machine.specs.NextEvents.{IsNextEvent, TookStep, acting_events_of, comes_before, is_least_by, least_kept, least_of, limit_by, line_kept, past_other, waits_until}
+use Rattle.ds_machine.specs.NextEvents.{IsNextEvent, TookStep, acting_events_of, least_of, line_kept, past_other}
 use Rattle.ds_machine.specs.Private.{IsAhead, IsBelowFence, ProcessorStaysPrivate, rank_of}
 use Rattle.ds_machine.specs.TurnSteps.{BelongsToTurn, ComesFirst, HasLimit, MayStep, TakesSteps, more_steps, no_steps}
 use Rattle.ds_machine.specs.Hearing.{Fences, geometry_rank}
@@ -31,10 +30,10 @@ use Rattle.ds_machine.specs.Steps.{is_blocked, line_of, nine_reach, outcome_of, 
 use Rattle.ds_machine.specs.Touching.{DataStaysPrivate, FetchStaysPrivate, MayBeAhead, is_private_to}
 use Rattle.ds_machine.specs.declared.answers.Done.TheVariants as answers
 use Rattle.ds_machine.specs.declared.next_events.NextEvent.{NextEvent}
-use Rattle.ds_machine.proofs.ActingDues.{acting_low, acting_processor, acting_split}
-use Rattle.ds_machine.proofs.DueTicks.{own_tick, rank_there, sort_rank, steps_as}
+use Rattle.ds_machine.proofs.ActingDues.{acting_processor, acting_split}
+use Rattle.ds_machine.proofs.DueTicks.{rank_there, steps_as}
 use Rattle.ds_machine.proofs.DecodedStays.{fetch_by_words}
-use Rattle.ds_machine.proofs.FastSteps.{ComesBefore, due_there, event_there, in_front, kept_is, processor_least, wait_ends, wait_is}
+use Rattle.ds_machine.proofs.FastSteps.{in_front}
 use Rattle.ds_machine.proofs.Files.{no_card, some_after, some_sound}
 use Rattle.ds_machine.proofs.OwnRemaining.{turn_steps_fall}
 use Rattle.ds_machine.proofs.PlacesByWords.{nine_by_words, seven_by_words}
@@ -43,10 +42,6 @@ use Rattle.ds_machine.proofs.PrivateTests.{fetch_of_stays}
 use Rattle.ds_machine.proofs.Statuses.{statuses_done}
 
 -- The steps of a processor's turn, by what is kept.
-
-comes_so : (proc : Proc) (n other : ℕ) → comes_before proc n other ≡ true → ComesBefore proc n other
-comes_so Nine n other h = le_of n other h
-comes_so Seven n other h = lt_of n other h
 
 -- ---- a processor that waits for a tick
 
@@ -62,91 +57,17 @@ pub record IsDueAt (s : MachineState) (proc : Proc) (n : ℕ) : Type 0 where
   pub there : processor_due s proc ≡ Some (record { 0 = n })
   pub own : (let t : Tick = record { 0 = n } in t) ≡ tick_of (processor_of s proc)
 
-pub due_when : (next_event : NextEvent) (s : MachineState) (proc : Proc) (n : ℕ) → IsNextEvent next_event s → n ≡ waits_until next_event s proc → n < 2 ^ 56 → IsDueAt s proc n
-due_when next_event s proc n is e lt =
-    let kept = kept_is next_event s is proc in
-    let there = due_there (is_blocked s proc) (least_kept next_event proc) (processor_of s proc) n kept e lt in
-    let k = wait_ends (is_blocked s proc) (least_kept next_event proc) (processor_of s proc).due kept (omega (arith, e, lt)) in
-    record { free = k.0; there = there; own = own_tick s proc (record { 0 = n }) there }
+-- ---- an event that acts
 
--- where it waits for the limit or past it, none of its steps belongs to its turn
-pub over_when : (next_event : NextEvent) (s : MachineState) (proc : Proc) (until n : ℕ) → IsNextEvent next_event s → n ≡ waits_until next_event s proc → until ≤ n
-    → BelongsToTurn until s proc → ⊥
-over_when next_event s proc until n is e le b =
-    let at = wait_is (is_blocked s proc) (least_kept next_event proc) (processor_of s proc) b.tick (kept_is next_event s is proc) b.due in
-    let below = b.below in
-    absurd (omega (arith, e, at, le, below))
-
-pub below_when : (next_event : NextEvent) (s : MachineState) (proc : Proc) (until n : ℕ) → IsNextEvent next_event s → n ≡ waits_until next_event s proc → BelongsToTurn until s proc → n < until
-below_when next_event s proc until n is e b =
-    let at = wait_is (is_blocked s proc) (least_kept next_event proc) (processor_of s proc) b.tick (kept_is next_event s is proc) b.due in
-    let below = b.below in
-    omega (arith, e, at, below)
-
--- ---- it is the least
-
-pub least_when : (next_event : NextEvent) (s : MachineState) (proc : Proc) (n : ℕ) → IsNextEvent next_event s → n ≡ waits_until next_event s proc → n < 2 ^ 56
-    → is_least_by next_event s proc ≡ true → IsLeast (acting_dues s) (record { 0 = n }) (rank_of proc)
-least_when next_event s proc n is e lt h =
-    let w = waits_until next_event s proc in
-    let o = waits_until next_event s (other_proc proc) in
-    let first = lt_of w next_event.events_until.0 (and_parts (nat_lt w next_event.events_until.0) (comes_before proc w o) h).0 in
-    let before = subst (λ (x : ℕ). ComesBefore proc x o) (sym e) (comes_so proc w o (and_parts (nat_lt w next_event.events_until.0) (comes_before proc w o) h).1) in
-    let d = due_when next_event s proc n is e lt in
-    let after : (at : Tick) → processor_due s (other_proc proc) ≡ Some at → ComesBefore proc n at.0 = λ at there.
-    subst (ComesBefore proc n) (wait_is (is_blocked s (other_proc proc)) (least_kept next_event (other_proc proc)) (processor_of s (other_proc proc)) at
-    (kept_is next_event s is (other_proc proc)) there) before in
-    processor_least proc s next_event.events_until.0 (record { 0 = n }) is.events (omega (arith, first, e)) d.there after
-
--- ---- it isn't
-
-event_in : (s : MachineState) (rank : ℕ) (at : Tick) → due_at (acting_events_of s) rank ≡ Some at → (rank < 22) × (due_at (acting_dues s) rank ≡ Some at)
+pub event_in : (s : MachineState) (rank : ℕ) (at : Tick) → due_at (acting_events_of s) rank ≡ Some at → (rank < 22) × (due_at (acting_dues s) rank ≡ Some at)
 event_in s rank at h =
     let back = processor_due s Nine ∷ processor_due s Seven ∷ [] in
     let lt = within (acting_events_of s) rank at h in
     (omega (arith, lt), ap (λ (dues : List (Option Tick)). due_at dues rank) (acting_split s) ∙ in_front (acting_events_of s) back rank lt ∙ h)
 
-above_events : (proc : Proc) → 22 ≤ rank_of proc
+pub above_events : (proc : Proc) → 22 ≤ rank_of proc
 above_events Nine = omega arith
 above_events Seven = omega arith
-
--- an event comes before it
-event_before : (next_event : NextEvent) (s : MachineState) (proc : Proc) (n : ℕ) → IsNextEvent next_event s → 0 < next_event.events_until.0 → next_event.events_until.0 ≤ n
-    → IsLeast (acting_dues s) (record { 0 = n }) (rank_of proc) → ⊥
-event_before next_event s proc n is some le l =
-    let k = is.first some in
-    let at = event_in s k.0 next_event.events_until k.1 in
-    let low = at.0 in
-    let high = above_events proc in
-    elim (l.least k.0 next_event.events_until at.1) [ inl a ↦ omega (arith, a, le) | inr b ↦ (let r = b.1 in omega (arith, r, low, high)) ]
-
--- the other processor does
-other_before : (proc : Proc) (s : MachineState) (n other : ℕ) → comes_before proc n other ≡ false → processor_due s (other_proc proc) ≡ Some (record { 0 = other })
-    → IsLeast (acting_dues s) (record { 0 = n }) (rank_of proc) → ⊥
-other_before Nine s n other h there l =
-    let lt = not_le n other h in
-    elim (l.least 23 (record { 0 = other }) (acting_processor s Seven ∙ there)) [ inl a ↦ omega (arith, a, lt) | inr b ↦ (let e = b.0 in omega (arith, e, lt)) ]
-other_before Seven s n other h there l =
-    let le = not_lt n other h in
-    elim (l.least 22 (record { 0 = other }) (acting_processor s Nine ∙ there)) [ inl a ↦ omega (arith, a, le) | inr b ↦ (let r = b.1 in omega (arith, r)) ]
-
-low_other : (proc : Proc) (n other : ℕ) → comes_before proc n other ≡ false → other ≤ n
-low_other Nine n other h = let lt = not_le n other h in omega (arith, lt)
-low_other Seven n other h = not_lt n other h
-
-pub not_least_when : (next_event : NextEvent) (s : MachineState) (proc : Proc) (n : ℕ) → IsNextEvent next_event s → 0 < next_event.events_until.0 → n ≡ waits_until next_event s proc
-    → n < 2 ^ 56 → is_least_by next_event s proc ≡ false → IsLeast (acting_dues s) (record { 0 = n }) (rank_of proc) → ⊥
-not_least_when next_event s proc n is some e lt h l =
-    let w = waits_until next_event s proc in
-    let o = waits_until next_event s (other_proc proc) in
-    elim (and_cases (nat_lt w next_event.events_until.0) (comes_before proc w o) h) [
-      | inl a ↦ (let le = not_lt w next_event.events_until.0 a in event_before next_event s proc n is some (omega (arith, e, le)) l)
-      | inr b ↦
-          (let c : comes_before proc n o ≡ false = subst (λ (x : ℕ). comes_before proc x o ≡ false) (sym e) b in
-          let le = low_other proc n o c in
-          let d = due_when next_event s (other_proc proc) o is refl (omega (arith, le, lt)) in
-          other_before proc s n o c d.there l)
-    ]
 
 -- ---- what is ahead
 
@@ -175,15 +96,9 @@ fetched_then s Seven at e lt k =
     subst (λ (x : ℕ). test x ≡ true) (sym e) (private_itself test (width_at r) r.pc (subst (λ (x : ℕ). x < 2 ^ 32) e lt) k)
 
 -- what is due before every event is below the fence
-no_fence : (s : MachineState) (proc each : Proc) (rank : ℕ) → rank ≡ rank_of each → Fences (actor_of rank) proc s → ⊥
+pub no_fence : (s : MachineState) (proc each : Proc) (rank : ℕ) → rank ≡ rank_of each → Fences (actor_of rank) proc s → ⊥
 no_fence s proc Nine rank e f = subst (λ (r : ℕ). Fences (actor_of r) proc s) e f
 no_fence s proc Seven rank e f = subst (λ (r : ℕ). Fences (actor_of r) proc s) e f
-
-pub below_events : (next_event : NextEvent) (s : MachineState) (proc : Proc) (tick : Tick) → IsNextEvent next_event s → tick.0 < next_event.events_until.0 → IsBelowFence s proc tick
-below_events next_event s proc tick is lt rank at there f = elim (sort_rank rank (acting_low s rank at there)) [
-  | inl event ↦ (let k = is.events rank at (event_there s rank at event there) in omega (arith, k, lt))
-  | inr rest ↦ elim rest [ inl e ↦ absurd (no_fence s proc Nine rank e f) | inr e ↦ absurd (no_fence s proc Seven rank e f) ]
-]
 
 pub line_is : (next_event : NextEvent) (s : MachineState) → IsNextEvent next_event s → (proc : Proc) → line_kept next_event proc ≡ line_of s proc
 line_is next_event s is Nine = is.nine_line
@@ -213,179 +128,51 @@ ahead_may s proc n d ahead =
 pub ahead_data : (s : MachineState) (proc : Proc) (n : ℕ) → IsDueAt s proc n → IsAhead s proc → DataStaysPrivate (record { 0 = n }) s proc
 ahead_data s proc n d ahead = subst (λ (t : Tick). DataStaysPrivate t s proc) (sym d.own) (data_of_own s proc ahead.private.own)
 
--- ---- none of its steps belongs to its turn, where it is neither the least nor ahead
-
-pub leaves_when : (next_event : NextEvent) (s : MachineState) (proc : Proc) (n until : ℕ) → IsNextEvent next_event s → 0 < next_event.events_until.0 → n ≡ waits_until next_event s proc
-    → n < 2 ^ 56 → is_least_by next_event s proc ≡ false → (IsAhead s proc → ⊥) → BelongsToTurn until s proc → ⊥
-leaves_when next_event s proc n until is some e lt h behind b = elim b.goes [
-  | inl least ↦
-      (let d = due_when next_event s proc n is e lt in
-      let same : b.tick ≡ record { 0 = n } = same_Some b.tick (record { 0 = n }) (sym b.due ∙ d.there) in
-      not_least_when next_event s proc n is some e lt h (subst (λ (t : Tick). IsLeast (acting_dues s) t (rank_of proc)) same least))
-  | inr ahead ↦ behind ahead
-]
-
--- ---- by the first tick at which it isn't the least any more
-
-pub waits_for : (next_event : NextEvent) (s : MachineState) (proc : Proc) (n : ℕ) → least_kept next_event proc ≡ 0 → n ≡ (processor_of s proc).due → n ≡ waits_until next_event s proc
-waits_for next_event s proc n free e = omega (arith, free, e)
-
-before_other : (proc : Proc) (n other : ℕ) → n < past_other proc other → comes_before proc n other ≡ true
-before_other Nine n other lt = is_le n other (omega (arith, lt))
-before_other Seven n other lt = is_lt n other lt
-
-not_before_other : (proc : Proc) (n other : ℕ) → n < 2 ^ 56 → past_other proc other ≤ n → comes_before proc n other ≡ false
-not_before_other Nine n other early le = isnt_le n other (omega (arith, le, early))
-not_before_other Seven n other early le = isnt_lt n other le
-
-pub record IsBelowLimit (next_event : NextEvent) (s : MachineState) (proc : Proc) (until n : ℕ) : Type 0 where
-  pub some : 0 < next_event.events_until.0
-  pub below : n < until
-  pub least : is_least_by next_event s proc ≡ true
-
-pub below_limit : (next_event : NextEvent) (s : MachineState) (proc : Proc) (until n limit : ℕ) → n ≡ waits_until next_event s proc → limit ≡ limit_by next_event s proc until → n < limit
-    → IsBelowLimit next_event s proc until n
-below_limit next_event s proc until n limit w l lt =
-    let o = past_other proc (waits_until next_event s (other_proc proc)) in
-    let all : n < min (min next_event.events_until.0 until) o = omega (arith, l, lt) in
-    let first : n < next_event.events_until.0 = omega (arith, all) in
-    record {
-      some = omega (arith, first);
-      below = omega (arith, all);
-      least = and_from (nat_lt (waits_until next_event s proc) next_event.events_until.0) (comes_before proc (waits_until next_event s proc) (waits_until next_event s (other_proc proc)))
-          (is_lt (waits_until next_event s proc) next_event.events_until.0 (omega (arith, first, w)))
-          (subst (λ (x : ℕ). comes_before proc x (waits_until next_event s (other_proc proc)) ≡ true) w
-          (before_other proc n (waits_until next_event s (other_proc proc)) (omega (arith, all))));
-    }
-
-pub past_limit : (next_event : NextEvent) (s : MachineState) (proc : Proc) (until n limit : ℕ) → n ≡ waits_until next_event s proc → limit ≡ limit_by next_event s proc until → limit ≤ n
-    → n < until → until ≤ 2 ^ 56 → is_least_by next_event s proc ≡ false
-past_limit next_event s proc until n limit w l le below early = elim (lt_cases n next_event.events_until.0) [
-  | inl k ↦
-      (let first = k.0 in
-      and_right (nat_lt (waits_until next_event s proc) next_event.events_until.0) (comes_before proc (waits_until next_event s proc) (waits_until next_event s (other_proc proc)))
-      (subst (λ (x : ℕ). comes_before proc x (waits_until next_event s (other_proc proc)) ≡ false) w
-      (not_before_other proc n (waits_until next_event s (other_proc proc)) (omega (arith, below, early)) (omega (arith, l, le, first, below)))))
-  | inr k ↦
-      (let last = k.0 in
-      and_left (nat_lt (waits_until next_event s proc) next_event.events_until.0) (comes_before proc (waits_until next_event s proc) (waits_until next_event s (other_proc proc)))
-      (isnt_lt (waits_until next_event s proc) next_event.events_until.0 (omega (arith, last, w))))
-]
-
--- ---- the same by what acts
+-- ---- the other processor's tick
 
 -- the other processor's rank
-across : (proc : Proc) (other : ℕ) → (other ≡ 22) ⊎ (other ≡ 23) → other ≢ rank_of proc → other ≡ rank_of (other_proc proc)
+pub across : (proc : Proc) (other : ℕ) → (other ≡ 22) ⊎ (other ≡ 23) → other ≢ rank_of proc → other ≡ rank_of (other_proc proc)
 across Nine other (inl e) ne = absurd (ne e)
 across Nine other (inr e) ne = e
 across Seven other (inl e) ne = e
 across Seven other (inr e) ne = absurd (ne e)
 
-after_other : (proc : Proc) (n wait at : ℕ) → n < past_other proc wait → wait ≡ at → (n < at) ⊎ ((n ≡ at) × (rank_of proc ≤ rank_of (other_proc proc)))
+pub after_other : (proc : Proc) (n wait at : ℕ) → n < past_other proc wait → wait ≡ at → (n < at) ⊎ ((n ≡ at) × (rank_of proc ≤ rank_of (other_proc proc)))
 after_other Nine n wait at lt e = elim (lt_or_same n at (omega (arith, lt, e))) [ inl a ↦ inl a | inr b ↦ inr (b, omega arith) ]
 after_other Seven n wait at lt e = inl (omega (arith, lt, e))
 
-past_if : (proc : Proc) (n wait at : ℕ) → n < 2 ^ 56 → wait ≡ at → (n < at) ⊎ ((n ≡ at) × (rank_of proc ≤ rank_of (other_proc proc))) → n < past_other proc wait
+pub past_if : (proc : Proc) (n wait at : ℕ) → n < 2 ^ 56 → wait ≡ at → (n < at) ⊎ ((n ≡ at) × (rank_of proc ≤ rank_of (other_proc proc))) → n < past_other proc wait
 past_if Nine n wait at low e (inl lt) = omega (arith, low, e, lt)
 past_if Nine n wait at low e (inr same) = (let k = same.0 in omega (arith, low, e, k))
 past_if Seven n wait at low e (inl lt) = omega (arith, e, lt)
 past_if Seven n wait at low e (inr same) = (let k = same.1 in absurd (omega (arith, k)))
 
-past_never : (proc : Proc) (n wait : ℕ) → n < 2 ^ 56 → 2 ^ 64 - 1 ≤ wait → n < past_other proc wait
+pub past_never : (proc : Proc) (n wait : ℕ) → n < 2 ^ 56 → 2 ^ 64 - 1 ≤ wait → n < past_other proc wait
 past_never Nine n wait low late = omega (arith, low, late)
 past_never Seven n wait low late = omega (arith, low, late)
 
-free_by : (blocked : Bool) → least_of blocked ≡ 0 → blocked ≡ false
+pub free_by : (blocked : Bool) → least_of blocked ≡ 0 → blocked ≡ false
 free_by true e = absurd (omega (arith, e))
 free_by false e = refl
 
-not_own : (proc : Proc) (rank : ℕ) → rank < 22 → rank ≢ rank_of proc
+pub not_own : (proc : Proc) (rank : ℕ) → rank < 22 → rank ≢ rank_of proc
 not_own Nine rank low = λ e. omega (arith, low, e)
 not_own Seven rank low = λ e. omega (arith, low, e)
 
-differs : (proc : Proc) → rank_of (other_proc proc) ≢ rank_of proc
+pub differs : (proc : Proc) → rank_of (other_proc proc) ≢ rank_of proc
 differs Nine = λ e. omega (arith, e)
 differs Seven = λ e. omega (arith, e)
 
-module _ (next_event : NextEvent) (s : MachineState) (proc : Proc) (until : ℕ) (is : IsNextEvent next_event s) (some : 0 < next_event.events_until.0) (early : until ≤ 2 ^ 56) where
-  abbrev wait : ℕ
-  wait = waits_until next_event s (other_proc proc)
+-- ---- a processor that is due below its limit
 
-  is_first : (n : ℕ) → n < limit_by next_event s proc until → (n < until) × ComesFirst s proc n
-  is_first n lt = (omega (arith, lt), go) where
-    go : ComesFirst s proc n
-    go other at ne h = elim (sort_rank other (acting_low s other at h)) [
-      | inl event ↦ (let k = is.events other at (event_there s other at event h) in inl (omega (arith, k, lt)))
-      | inr rest ↦
-          (let e = across proc other rest ne in
-          let there = sym (acting_processor s (other_proc proc)) ∙ subst (λ (r : ℕ). due_at (acting_dues s) r ≡ Some at) e h in
-          let w = wait_is (is_blocked s (other_proc proc)) (least_kept next_event (other_proc proc)) (processor_of s (other_proc proc)) at (kept_is next_event s is (other_proc proc)) there in
-          subst (λ (r : ℕ). (n < at.0) ⊎ ((n ≡ at.0) × (rank_of proc ≤ r))) (sym e) (after_other proc n wait at.0 (omega (arith, lt)) w))
-    ]
-
-  before_events : (n : ℕ) → ComesFirst s proc n → n < next_event.events_until.0
-  before_events n first =
-      let k = is.first some in
-      let at = event_in s k.0 next_event.events_until k.1 in
-      let low = at.0 in
-      let high = above_events proc in
-      elim (first k.0 next_event.events_until (not_own proc k.0 low) at.1) [ inl lt ↦ lt | inr e ↦ (let r = e.1 in absurd (omega (arith, r, low, high))) ]
-
-  before_past : (n : ℕ) → n < 2 ^ 56 → ComesFirst s proc n → n < past_other proc wait
-  before_past n low first = by_need (is_blocked s (other_proc proc)) refl where
-    by_need : (blocked : Bool) → is_blocked s (other_proc proc) ≡ blocked → n < past_other proc wait
-    by_need true e =
-        let least : least_kept next_event (other_proc proc) ≡ 2 ^ 64 - 1 = kept_is next_event s is (other_proc proc) ∙ ap least_of e in
-        past_never proc n wait low (omega (arith, least))
-    by_need false e =
-        let there : processor_due s (other_proc proc) ≡ Some (tick_of (processor_of s (other_proc proc))) = ap (λ (b : Bool). due_unless b (processor_of s (other_proc proc))) e in
-        let w = wait_is (is_blocked s (other_proc proc)) (least_kept next_event (other_proc proc)) (processor_of s (other_proc proc)) _ (kept_is next_event s is (other_proc proc)) there in
-        past_if proc n wait (processor_of s (other_proc proc)).due low w
-        (first (rank_of (other_proc proc)) (tick_of (processor_of s (other_proc proc))) (differs proc) (acting_processor s (other_proc proc) ∙ there))
-
-  pub limit_kept : is_blocked s proc ≡ false → HasLimit until s proc (limit_by next_event s proc until)
-  limit_kept free = record { free = free; first = λ n. (is_first n, λ k. below n k.0 k.1) } where
-    below : (n : ℕ) → n < until → ComesFirst s proc n → n < limit_by next_event s proc until
-    below n lt first = (let event = before_events n first in let other = before_past n (omega (arith, lt, early)) first in omega (arith, lt, event, other))
-
--- there is one such tick alone
-one_limit : (a b : ℕ) → ((n : ℕ) → n < a → n < b) → ((n : ℕ) → n < b → n < a) → a ≡ b
-one_limit a b to from = elim (lt_cases b a) [
-  | inl k ↦ (let bad = to b k.0 in absurd (omega (arith, bad)))
-  | inr k ↦ elim (lt_cases a b) [ inl j ↦ (let bad = from a j.0 in absurd (omega (arith, bad))) | inr j ↦ (let le = k.0 in let ge = j.0 in omega (arith, le, ge)) ]
-]
-
-pub limit_here : (next_event : NextEvent) (s : MachineState) (proc : Proc) (until limit : ℕ) → IsNextEvent next_event s → 0 < next_event.events_until.0 → until ≤ 2 ^ 56
-    → HasLimit until s proc limit → limit ≡ limit_by next_event s proc until
-limit_here next_event s proc until limit is some early has =
-    let kept = limit_kept next_event s proc until is some early has.free in
-    one_limit limit (limit_by next_event s proc until) (λ n lt. (kept.first n).1 ((has.first n).0 lt)) (λ n lt. (has.first n).1 ((kept.first n).0 lt))
-
-pub free_here : (next_event : NextEvent) (s : MachineState) (proc : Proc) (until limit : ℕ) → IsNextEvent next_event s → HasLimit until s proc limit → least_kept next_event proc ≡ 0
-free_here next_event s proc until limit is has = kept_is next_event s is proc ∙ ap least_of has.free
-
--- and it is the one that is kept
-pub limit_so : (next_event : NextEvent) (s : MachineState) (proc : Proc) (until limit : ℕ) → IsNextEvent next_event s → 0 < next_event.events_until.0 → until ≤ 2 ^ 56
-    → least_kept next_event proc ≡ 0 → limit ≡ limit_by next_event s proc until → HasLimit until s proc limit
-limit_so next_event s proc until limit is some early free same =
-    subst (HasLimit until s proc) (sym same)
-    (limit_kept next_event s proc until is some early (free_by (is_blocked s proc) (sym (kept_is next_event s is proc) ∙ free)))
-
--- one that waits for no tick but its own isn't blocked
-pub free_now : (next_event : NextEvent) (s : MachineState) (proc : Proc) → IsNextEvent next_event s → least_kept next_event proc ≡ 0 → is_blocked s proc ≡ false
-free_now next_event s proc is free = free_by (is_blocked s proc) (sym (kept_is next_event s is proc) ∙ free)
-
--- one that is due early isn't blocked
-pub free_when : (next_event : NextEvent) (s : MachineState) (proc : Proc) (n : ℕ) → IsNextEvent next_event s → n ≡ waits_until next_event s proc → n < 2 ^ 56 → least_kept next_event proc ≡ 0
-free_when next_event s proc n is e lt = kept_is next_event s is proc ∙ ap least_of (due_when next_event s proc n is e lt).free
-
--- one that is due before it belongs to its turn
-pub belongs_below : (until limit : ℕ) (s : MachineState) (proc : Proc) → HasLimit until s proc limit → (processor_of s proc).due < limit → BelongsToTurn until s proc
-belongs_below until limit s proc has lt =
+-- it is the least
+pub least_there : (until limit : ℕ) (s : MachineState) (proc : Proc) → HasLimit until s proc limit → (processor_of s proc).due < limit
+    → IsLeast (acting_dues s) (tick_of (processor_of s proc)) (rank_of proc)
+least_there until limit s proc has lt =
     let tick = tick_of (processor_of s proc) in
     let k = (has.first tick.0).0 lt in
     let due : processor_due s proc ≡ Some tick = ap (λ (b : Bool). due_unless b (processor_of s proc)) has.free in
-    record { tick = tick; due = due; below = k.0; goes = inl (record { there = acting_processor s proc ∙ due; least = least tick due k.1 }) } where
+    record { there = acting_processor s proc ∙ due; least = least tick due k.1 } where
       least : (tick : Tick) → processor_due s proc ≡ Some tick → ComesFirst s proc tick.0 → (other : ℕ) (at : Tick) → due_at (acting_dues s) other ≡ Some at
           → (tick.0 < at.0) ⊎ ((tick.0 ≡ at.0) × (rank_of proc ≤ other))
       least tick due first other at h = elim (same_or_not other (rank_of proc)) [
@@ -395,6 +182,13 @@ belongs_below until limit s proc has lt =
             inr (ap (λ (t : Tick). t.0) same, omega (arith, e)))
         | inr ne ↦ first other at ne h
       ]
+
+-- and belongs to its turn
+pub belongs_below : (until limit : ℕ) (s : MachineState) (proc : Proc) → HasLimit until s proc limit → (processor_of s proc).due < limit → BelongsToTurn until s proc
+belongs_below until limit s proc has lt =
+    let tick = tick_of (processor_of s proc) in
+    let due : processor_due s proc ≡ Some tick = ap (λ (b : Bool). due_unless b (processor_of s proc)) has.free in
+    record { tick = tick; due = due; below = ((has.first tick.0).0 lt).0; goes = inl (least_there until limit s proc has lt) }
 
 -- ---- a step that is taken
 
@@ -417,11 +211,11 @@ apart_may s proc n d early goes apart = record {
   ];
 }
 
-pub took_when : (next_event : NextEvent) (s next : MachineState) (proc : Proc) (n until : ℕ) → RunsWithSome s → IsDueAt s proc n → n < until → until ≤ 2 ^ 56
+pub took_when : (s next : MachineState) (proc : Proc) (n until : ℕ) → RunsWithSome s → IsDueAt s proc n → n < until → until ≤ 2 ^ 56
     → IsLeast (acting_dues s) (record { 0 = n }) (rank_of proc) ⊎ IsAhead s proc → observes_by (Processor proc) s ≡ false
-    → awake (Some (record { 0 = n })) (step_by (rank_of proc) (Processor proc) s) ≡ stepped_of s answers.Made next → next.io ≡ s.io
+    → awake (Some (record { 0 = n })) (step_by (rank_of proc) (Processor proc) s) ≡ stepped_of s answers.Made next → next.io ≡ s.io → next.keys ≡ s.keys
     → (processor_of next (other_proc proc)).due ≡ (processor_of s (other_proc proc)).due → TookStep until proc s next
-took_when next_event s next proc n until running d lt early goes apart made io other =
+took_when s next proc n until running d lt early goes apart made io keys other =
     let b : BelongsToTurn until s proc = record { tick = record { 0 = n }; due = d.there; below = lt; goes = goes } in
     let step = steps_as s (rank_of proc) (Processor proc) (Some (record { 0 = n })) (Makes next []) (actor_is proc) d.there made in
     record {
@@ -431,6 +225,7 @@ took_when next_event s next proc n until running d lt early goes apart made io o
       running = some_after (rank_of proc) s next [] (no_card proc) running (apart_may s proc n d (omega (arith, lt, early)) goes apart) step;
       fewer = turn_steps_fall until s s next proc [] (some_sound s running) b (needs_none s proc apart) step;
       io = io;
+      keys = keys;
       other = other;
     }
 

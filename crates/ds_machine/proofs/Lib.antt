@@ -51,6 +51,7 @@ pub mod ActingPlaces
 pub mod Running
 pub mod TurnSteps
 pub mod GoingSteps
+pub mod EndTicks
 pub mod FastTurns
 pub mod VertexRuns
 pub mod VideoEvents

@@ -1,4 +1,4 @@
-use Rattle.std.specs.Prelude.{ℕ, ◌+◌, ◌-◌, ◌^◌, ◌≡◌, ◌<◌, ◌&&◌, nat_le, nat_lt, Bool, true, false, if◌then◌else◌, List, ◌∷◌, Option, Some, max, min, []}
+use Rattle.std.specs.Prelude.{ℕ, ◌+◌, ◌-◌, ◌^◌, ◌≡◌, ◌<◌, Bool, true, false, if◌then◌else◌, List, ◌∷◌, Option, Some, max, min, []}
 use Rattle.ds_base.specs.declared.processors.Proc.{Proc}
 use Rattle.ds_base.specs.declared.processors.Proc.TheVariants.{Nine, Seven}
 use Rattle.ds_base.specs.declared.ticks.Tick.{Tick}
@@ -15,9 +15,10 @@ use Rattle.ds_machine.specs.Reference.{keys_due, reference_step}
 use Rattle.ds_machine.specs.Sound.{AreAsleep}
 use Rattle.ds_machine.specs.States.{MachineState}
 use Rattle.ds_machine.specs.Steps.{is_blocked, line_of, processor_of}
-use Rattle.ds_machine.specs.TurnSteps.{BelongsToTurn, own_remaining}
+use Rattle.ds_machine.specs.TurnSteps.{BelongsToTurn, HasLimit, IsEnd, own_remaining}
 use Rattle.ds_machine.specs.declared.going.Gone.{Gone}
 use Rattle.ds_machine.specs.declared.going.Gone.TheVariants as gone
+use Rattle.ds_machine.specs.declared.next_events.Ends.{Ends}
 use Rattle.ds_machine.specs.declared.next_events.NextEvent.{NextEvent}
 
 -- What is kept between steps of the fast path. No public clause speaks of it.
@@ -50,24 +51,27 @@ line_kept next_event Seven = next_event.seven_line
 abbrev pub waits_until : NextEvent → MachineState → Proc → ℕ
 waits_until next_event s proc = due_at_least (least_kept next_event proc) (processor_of s proc).due
 
--- a processor that is due at a tick comes before the other: ARM9 at equal ticks too
-abbrev pub comes_before : Proc → ℕ → ℕ → Bool
-comes_before Nine n other = nat_le n other
-comes_before Seven n other = nat_lt n other
-
--- a processor is the least acting actor by it
-abbrev pub is_least_by : NextEvent → MachineState → Proc → Bool
-is_least_by next_event s proc =
-    nat_lt (waits_until next_event s proc) next_event.events_until.0
-    && comes_before proc (waits_until next_event s proc) (waits_until next_event s (other_proc proc))
-
--- the first tick at which it isn't, or isn't due below a limit any more
+-- the first tick at which a processor doesn't come before the other any more: ARM9 does at equal ticks too
 abbrev pub past_other : Proc → ℕ → ℕ
 past_other Nine other = min (other + 1) (2 ^ 64 - 1)
 past_other Seven other = other
 
+-- and at which it isn't the least acting actor by what is kept, or isn't due below a limit
 abbrev pub limit_by : NextEvent → MachineState → Proc → ℕ → ℕ
 limit_by next_event s proc until = min (min next_event.events_until.0 until) (past_other proc (waits_until next_event s (other_proc proc)))
+
+-- the same by when both are due
+abbrev pub wait_in : Ends → Proc → ℕ
+wait_in ends Nine = ends.nine
+wait_in ends Seven = ends.seven
+
+abbrev pub limit_in : Ends → Proc → ℕ
+limit_in ends proc = min ends.end (past_other proc (wait_in ends (other_proc proc)))
+
+-- and when one of both is due at another tick
+abbrev pub put_in : Ends → Proc → ℕ → Ends
+put_in ends Nine tick = record ends { nine = tick }
+put_in ends Seven tick = record ends { seven = tick }
 
 -- what is kept is so of a machine: no actor but the processors acts before a tick; unless that is 0 one acts at it, no halted processor is to wake,
 -- and the units behind the ports are settled; each processor's least tick says whether it is blocked; and its interrupt line is up or isn't
@@ -89,20 +93,21 @@ pub record TookStep (until : ℕ) (proc : Proc) (s next : MachineState) : Type 0
   pub running : RunsWithSome next
   pub fewer : own_remaining until next proc < own_remaining until s proc
   pub io : next.io ≡ s.io
+  pub keys : next.keys ≡ s.keys
   pub other : (processor_of next (other_proc proc)).due ≡ (processor_of s (other_proc proc)).due
 
--- what the fast steps of a processor go by: what is kept is so of the machine, which goes on, and its tick is known; the processor isn't blocked; and
--- this is the first tick at which it isn't the least acting actor, or isn't due below a limit, any more
-pub record GoesFast (until : ℕ) (proc : Proc) (next_event : NextEvent) (limit : ℕ) (s : MachineState) : Type 0 where
+-- what the fast steps of a processor go by: what is kept is so of the machine, which goes on; the processor's line is down; where it is known, this is
+-- the first tick at which an event acts; and the first at which the processor isn't the least acting actor, or isn't due below a limit, any more
+pub record GoesFast (until : ℕ) (proc : Proc) (next_event : NextEvent) (end limit : ℕ) (s : MachineState) : Type 0 where
   pub kept : IsNextEvent next_event s
-  pub some : 0 < next_event.events_until.0
-  pub free : least_kept next_event proc ≡ 0
-  pub least : limit ≡ limit_by next_event s proc until
+  pub down : line_kept next_event proc ≡ false
+  pub events : 0 < end → IsEnd until s end
+  pub least : HasLimit until s proc limit
   pub running : RunsWithSome s
 
 -- what trying one gives: it was taken, and the next goes by the same; or no step belongs to the turn any more; or it isn't a fast one. Where it
 -- wasn't taken the machine is as it was
-abbrev pub WentFast : ℕ → Proc → NextEvent → ℕ → MachineState → Gone → MachineState → Type 0
-WentFast until proc next_event limit old gone.Took new = TookStep until proc old new × GoesFast until proc next_event limit new
-WentFast until proc next_event limit old gone.Over new = (¬ BelongsToTurn until old proc) × (new ≡ old)
-WentFast until proc next_event limit old gone.Unknown new = new ≡ old
+abbrev pub WentFast : ℕ → Proc → NextEvent → ℕ → ℕ → MachineState → Gone → MachineState → Type 0
+WentFast until proc next_event end limit old gone.Took new = TookStep until proc old new × GoesFast until proc next_event end limit new
+WentFast until proc next_event end limit old gone.Over new = (¬ BelongsToTurn until old proc) × (new ≡ old)
+WentFast until proc next_event end limit old gone.Unknown new = new ≡ old

@@ -1,6 +1,7 @@
-use Rattle.std.specs.Prelude.{ℕ, false, ◌-◌, ◌≡◌, ◌≢◌, ◌<◌, ◌≤◌, ◌^◌, ◌⊎◌, ◌↔◌, List, ◌++◌, Option, Some, None, []}
+use Rattle.std.specs.Prelude.{ℕ, false, ◌-◌, ◌≡◌, ◌≢◌, ◌<◌, ◌≤◌, ◌^◌, ◌⊎◌, ◌↔◌, max, if◌then◌else◌, List, ◌++◌, Option, Some, None, []}
 use Rattle.ds_base.specs.declared.left_out.LeftOut.{LeftOut}
 use Rattle.ds_base.specs.declared.processors.Proc.{Proc}
+use Rattle.ds_base.specs.declared.processors.Proc.TheVariants.{Nine, Seven}
 use Rattle.ds_base.specs.declared.ticks.Tick.{Tick}
 use Rattle.ds_runs.specs.Runs.{Ending, IsLeast, Makes, Runs, Stopped, Stops, due_at}
 use Rattle.ds_machine.specs.Acting.{acting_dues}
@@ -10,6 +11,7 @@ use Rattle.ds_machine.specs.Reference.{Shown, dues_of, processor_due, reference,
 use Rattle.ds_machine.specs.Sound.{IsSound}
 use Rattle.ds_machine.specs.States.{MachineState}
 use Rattle.ds_machine.specs.Steps.{is_blocked, processor_of}
+use Rattle.ds_machine.specs.declared.next_events.Ends.{Ends}
 use Rattle.ds_machine.specs.declared.next_events.First.{First}
 
 -- Which steps belong to a turn, and which may be taken. Our choice; a console's turn rests on it.
@@ -41,6 +43,24 @@ pub record HasLimit (until : ℕ) (s : MachineState) (proc : Proc) (limit : ℕ)
 pub record IsFirst (until : ℕ) (s : MachineState) (first : First) : Type 0 where
   pub least : IsLeastBelow until s first.proc
   pub limit : HasLimit until s first.proc first.limit
+
+-- a tick comes before all events: before it and at it no actor acts but the processors
+abbrev pub ComesBeforeEvents : MachineState → ℕ → Type 0
+ComesBeforeEvents s tick = (event : ℕ) (at : Tick) → event < 22 → due_at (acting_dues s) event ≡ Some at → tick < at.0
+
+-- the first tick that doesn't, or isn't below the limit of a turn
+abbrev pub IsEnd : ℕ → MachineState → ℕ → Type 0
+IsEnd until s end = (tick : ℕ) → (tick < end) ↔ ((tick < until) × ComesBeforeEvents s tick)
+
+-- when a processor is due; past all ticks of a run while it is blocked
+abbrev pub due_or_never : MachineState → Proc → ℕ
+due_or_never s proc = max (processor_of s proc).due (if is_blocked s proc then 2 ^ 64 - 1 else 0)
+
+-- by these the processor whose turn begins is found: that tick, where it is known, and when both are due
+pub record HasEnds (until : ℕ) (s : MachineState) (ends : Ends) : Type 0 where
+  pub end : 0 < ends.end → IsEnd until s ends.end
+  pub nine : ends.nine ≡ due_or_never s Nine
+  pub seven : ends.seven ≡ due_or_never s Seven
 
 -- a processor took some steps of its turn, one after another; before one that observes geometry, geometry caught up
 pub data TakesSteps (until : ℕ) (proc : Proc) : MachineState → MachineState → Type 0 where

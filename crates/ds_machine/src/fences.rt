@@ -7,7 +7,7 @@ ghost use Rattle.ds_machine.specs.Acting.{acting_dues};
 ghost use Rattle.ds_machine.specs.FenceTicks.{channel_dues, fence_dues, timer_dues};
 ghost use Rattle.ds_machine.specs.NextEvents.{IsNextEvent};
 ghost use Rattle.ds_machine.specs.Private as private;
-ghost use Rattle.ds_machine.specs.Private.{IsAhead, IsFence};
+ghost use Rattle.ds_machine.specs.Private.{IsAhead, IsBelowFence, IsFence};
 ghost use Rattle.ds_machine.specs.TurnSteps.{BelongsToTurn, HasLimit};
 ghost use Rattle.ds_machine.specs.Reference.{keys_due, processor_due};
 ghost use Rattle.ds_machine.specs.Steps.{processor_of};
@@ -108,13 +108,21 @@ impl Parts {
         self.acting().rank == rank_of(proc)
     }
 
+    /// Whether a tick is below a processor's fence, which is asked for only from the first event that acts on.
+    fn is_below_known(&self, next_event: NextEvent, proc: Proc, tick: Tick) -> bool
+        requires { IsNextEvent next_event self.now }
+        ensures { (result ≡ true) ↔ IsBelowFence self.now proc tick }
+    {
+        tick.0 < next_event.events_until.0 || self.is_below_fence(proc, tick)
+    }
+
     /// Whether a processor's next step may be taken before its turn.
     fn is_ahead(&self, next_event: NextEvent, proc: Proc, tick: Tick) -> bool
         requires due { processor_due self.now proc ≡ Some tick }
         requires next_event { IsNextEvent next_event self.now }
         ensures { (result ≡ true) ↔ IsAhead self.now proc }
     {
-        self.is_below_fence(next_event, proc, tick) && self.is_step_private(proc)
+        self.is_below_known(next_event, proc, tick) && self.is_step_private(proc)
     }
 
     /// Whether a processor's next step belongs to its turn with a limit: it is due below the limit, and is the least acting step, or may be taken

@@ -33,9 +33,10 @@
 //!   no bank that is allotted to ARM7; ARM7's are its own work RAM from 3800000h on and its boot ROM.
 //! - `fence` is the least tick at which one acts of those that may halt it, wake it or make it wait (`IsFence`; quiet geometry doesn't
 //!   act), and `belongs_by` is exactly whether its next step belongs to its turn with a limit (`BelongsToTurn`).
-//! - `go_fast` takes steps of its turn, as many as it knows of, and answers whether the turn is over; `first` tells a processor that is the
-//!   least acting actor, and the first tick at which it wouldn't be any more, or not be due below the turn's limit (`HasLimit`), by which
-//!   `go_fast` goes.
+//! - `go_fast` takes steps of its turn, as many as it knows of, and answers whether the turn is over. `ends` tells the first tick at which an
+//!   actor acts that is no processor, and when both processors are due (`HasEnds`); by these `Ends::first` tells a processor that is the least
+//!   acting actor, and the first tick at which it wouldn't be any more, or not be due below the turn's limit (`IsFirst`), by which `go_fast`
+//!   goes. Of the three it moves its own processor's tick alone.
 //! - `acting` is the least of all that are due but quiet geometry (`IsActing`); `observes` tells exactly whether an actor's next step
 //!   observes geometry (`observes_by`); `catch_up` takes exactly the steps of quiet geometry before a place in the order of steps, before
 //!   which nobody acts (`CatchesUp`), and `catch_up_before` does so before a step that observes geometry (`CatchesUpFor`). `step_of_turn` does
@@ -115,6 +116,6 @@ pub use laws::{
     own_turn_laws, reference_laws, running_laws, status_laws, time_laws, touch_laws,
 };
 pub use machines::Machine;
-pub use next_events::First;
+pub use next_events::{Ends, First};
 pub use saved::saved_laws;
 pub use stopping::stop_laws;

@@ -1,9 +1,9 @@
 //! The machine.
 
-ghost use Rattle.std.specs.Prelude.{◌≡◌, ◌↔◌, ◌<◌, ◌≤◌, ◌^◌, false, true, slice_index, length, IfOk, IfSome, IsSome, None};
+ghost use Rattle.std.specs.Prelude.{ℕ, ◌≡◌, ◌↔◌, ◌<◌, ◌≤◌, ◌^◌, false, true, slice_index, length, IfOk, IfSome, IsSome, None};
 ghost use Rattle.ds_base.specs.Memories.{memory_size};
 ghost use Rattle.ds_card.specs.Cards.{IsCard};
-ghost use Rattle.ds_ipc.specs.Ipcs.{AreSides};
+ghost use Rattle.ds_ipc.specs.Ipcs.{AreSides, other_proc};
 ghost use Rattle.ds_ports.specs.Acting.{is_quiet};
 ghost use Rattle.ds_ports.specs.Io.{io_at_boot};
 ghost use Rattle.ds_runs.specs.Actors.{actor_of};
@@ -15,7 +15,7 @@ ghost use Rattle.ds_machine.specs.Frames.{framed_of};
 ghost use Rattle.ds_machine.specs.Lagging.{observes_by, CatchesUp, CatchesUpFor, ComesBeforeAll};
 ghost use Rattle.ds_machine.specs.Inspections.{memory_of, registers_of, seen_of};
 ghost use Rattle.ds_machine.specs.Private.{rank_of, IsFence, IsPrivate};
-ghost use Rattle.ds_machine.specs.TurnSteps.{BelongsToTurn, HasLimit, IsFirst, MayAct, MayStep, TakesSteps};
+ghost use Rattle.ds_machine.specs.TurnSteps.{due_or_never, BelongsToTurn, HasEnds, HasLimit, IsEnd, MayAct, MayStep, TakesSteps};
 ghost use Rattle.ds_machine.specs.declared.answers.Private.TheVariants.{Yes};
 ghost use Rattle.ds_machine.specs.Reference.{dues_of};
 ghost use Rattle.ds_machine.specs.Sound.{HasSoundParts};
@@ -30,7 +30,7 @@ mod saved;
 use crate::answers::{Done, Private, Seen};
 use crate::fences;
 use crate::going::Gone;
-use crate::next_events::{First, NextEvent};
+use crate::next_events::{Ends, NextEvent};
 use crate::parts::Parts;
 use arm_exec::enters;
 use ds_base::{Due, Keys, LeftOut, Memory, Proc, Tick, Width};
@@ -140,39 +140,44 @@ impl Machine {
         self.next_event = next_event;
     }
 
-    /// The processor that is the least acting actor and due below a limit, where that is known at once; None where it isn't, or where another actor
-    /// is the least that acts.
+    /// By these the processor whose turn begins is found, where it is known at once: the first tick at which an actor acts that is no processor, or
+    /// that isn't below a limit, and when each processor is due.
     #[inline(always)]
-    pub fn first(&self, until: Tick) -> Option<First>
-        requires { until.0 ≤ 2 ^ 56 }
-        ensures { IfSome result (λ first. IsFirst until.0 self.now first) }
+    pub fn ends(&self, until: Tick) -> Ends
+        ensures { HasEnds until.0 self.now result }
     {
-        if let Some(first) = self.parts.first_below(self.next_event, Proc::Nine, until) {
-            return Some(first);
+        Ends {
+            end: self.next_event.events_until.0.min(until.0),
+            nine: self.parts.waits_until(self.next_event, Proc::Nine),
+            seven: self.parts.waits_until(self.next_event, Proc::Seven),
         }
-        self.parts.first_below(self.next_event, Proc::Seven, until)
     }
 
     /// A processor takes steps of its turn with a limit, while they are of the fast path; by the first tick at which it isn't the least acting one
-    /// any more. The answer is whether its turn is over; where it isn't known to be, `belongs_by` tells it, and the next step, where it belongs to
-    /// the turn, is to be taken by `step`. No unit behind the ports changes: so no frame becomes whole, and no lists are swapped. What is kept stays
-    /// as it is, and is handed to each step, so that it isn't loaded again after a store.
+    /// any more, and the first at which an event acts, or 0 where that isn't known. The answer is whether its turn is over; where it isn't known to
+    /// be, `belongs_by` tells it, and the next step, where it belongs to the turn, is to be taken by `step`. No unit behind the ports changes: so no
+    /// frame becomes whole, no lists are swapped, and every other actor stays due when it was. What is kept stays as it is, and is handed to each
+    /// step, so that it isn't loaded again after a store. Where the processor's interrupt line is up none is taken: the line is asked for once a
+    /// turn, since no step changes it, and a step may clear I.
     #[inline(always)]
-    pub fn go_fast(&mut self, proc: Proc, until: Tick, limit: u64) -> bool
+    pub fn go_fast(&mut self, proc: Proc, until: Tick, end: u64, limit: u64) -> bool
         requires running { RunsWithSome self.old }
         requires early { until.0 ≤ 2 ^ 56 }
         requires limit { HasLimit until.0 self.old proc limit }
+        requires end { 0 < end → IsEnd until.0 self.old end }
         ensures steps { TakesSteps until.0 proc self.old self.new }
         ensures over { result ≡ true → BelongsToTurn until.0 self.new proc → ⊥ }
         ensures io { self.new.io ≡ self.old.io }
         ensures limit { HasLimit until.0 self.new proc limit }
+        ensures end { 0 < end → IsEnd until.0 self.new end }
+        ensures other { due_or_never self.new (other_proc proc) ≡ due_or_never self.old (other_proc proc) }
     {
         let next_event = self.next_event;
-        if next_event.events_until.0 == 0 {
+        if next_event.line(proc) {
             return false;
         }
         'steps: loop {
-            match self.parts.step_fast(next_event, proc, until, limit) {
+            match self.parts.step_fast(next_event, proc, until, end, limit) {
                 Gone::Took => {}
                 Gone::Over => return true,
                 Gone::Unknown => return false,

@@ -1,12 +1,15 @@
 //! What is kept between steps of the fast path.
 
-ghost use Rattle.std.specs.Prelude.{◌≡◌, ◌<◌, ◌+◌, ◌-◌, ◌^◌, min, ℕ, Some, true};
+ghost use Rattle.std.specs.Prelude.{◌≡◌, ◌<◌, ◌≤◌, ◌+◌, ◌-◌, ◌^◌, min, ℕ, Some, true, IfSome, IsSome};
 ghost use Rattle.ds_ports.specs.Io.{is_settled};
 ghost use Rattle.ds_runs.specs.Runs.{IsOver, due_at};
 ghost use Rattle.ds_machine.specs.NextEvents as kept;
-ghost use Rattle.ds_machine.specs.NextEvents.{acting_events_of, least_of, due_at_least, least_kept, limit_by, line_kept, IsNextEvent};
+ghost use Rattle.ds_machine.specs.NextEvents.{acting_events_of, least_of, due_at_least, least_kept, line_kept, IsNextEvent};
+ghost use Rattle.ds_machine.specs.NextEvents.{limit_by, limit_in, put_in};
 ghost use Rattle.ds_machine.specs.Sound.{AreAsleep};
+ghost use Rattle.ds_machine.specs.States.{MachineState};
 ghost use Rattle.ds_machine.specs.Steps.{is_blocked};
+ghost use Rattle.ds_machine.specs.TurnSteps.{HasEnds, IsFirst};
 
 use crate::parts::Parts;
 use ds_base::{Proc, Tick};
@@ -66,6 +69,66 @@ fn due_at_least(least: u64, due: u64) -> u64
     ensures { result ≡ due_at_least least due }
 {
     due.max(least)
+}
+
+/// By these the processor whose turn begins is found. A turn of fast steps moves the tick of its own processor alone.
+#[derive(Clone, Copy)]
+pub struct Ends {
+    /// The first tick at which an actor acts that is no processor, or that isn't below a limit; 0 where it isn't known.
+    pub end: u64,
+    /// When ARM9 is due; past all ticks of a run while it is blocked.
+    pub nine: u64,
+    /// So is ARM7.
+    pub seven: u64,
+}
+
+impl Ends {
+    /// The first tick at which a processor isn't the least acting actor, or isn't due below the limit, any more, while it alone takes steps.
+    #[inline(always)]
+    fn limit(&self, proc: Proc) -> u64
+        ensures { result ≡ limit_in self.now proc }
+    {
+        match proc {
+            Proc::Nine => past_if_below(self.seven, self.end),
+            Proc::Seven => self.end.min(self.nine),
+        }
+    }
+
+    /// The processor that is the least acting actor and due below the limit, where that is known; None where it isn't, or where another actor is the
+    /// least that acts.
+    #[inline(always)]
+    pub fn first(&self) -> Option<First>
+        ensures known { (until : ℕ) (s : MachineState) → until ≤ 2 ^ 56 → HasEnds until s self.now → IfSome result (λ first. IsFirst until s first) }
+        ensures some { IsSome result → 0 < self.now.end }
+    {
+        let nine = self.nine;
+        let seven = self.seven;
+        if nine <= seven {
+            if nine < self.end {
+                return Some(First {
+                    proc: Proc::Nine,
+                    limit: self.limit(Proc::Nine),
+                });
+            }
+        } else if seven < self.end {
+            return Some(First {
+                proc: Proc::Seven,
+                limit: self.limit(Proc::Seven),
+            });
+        }
+        None
+    }
+
+    /// A processor is due at this tick now.
+    #[inline(always)]
+    pub fn put(&mut self, proc: Proc, tick: Tick)
+        ensures { self.new ≡ put_in self.old proc tick.0 }
+    {
+        match proc {
+            Proc::Nine => self.nine = tick.0,
+            Proc::Seven => self.seven = tick.0,
+        }
+    }
 }
 
 /// The tick after one that is below an end, and else the end.

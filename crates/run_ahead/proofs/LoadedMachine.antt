@@ -3,18 +3,13 @@ use Rattle.std.specs.Prelude.{IfSome}
 use Rattle.ds_base.specs.declared.processors.Proc.{Proc}
 use Rattle.ds_machine.specs.States.{MachineState, ProcessorState, with_file}
 use Rattle.ds_machine.specs.Steps.{processor_of}
-use Rattle.ds_machine.specs.TurnSteps.{HasLimit, IsFirst}
-use Rattle.ds_machine.specs.declared.next_events.First.{First}
-use Rattle.ds_machine.proofs.Files.{is_first_put, limit_put, own_put}
+use Rattle.ds_machine.specs.TurnSteps.{HasLimit}
+use Rattle.ds_machine.proofs.Files.{limit_put, own_put}
 
 -- What is answered of a machine is so of it with its cartridge's file: `now` is the one with it.
 
 pub own_loaded : (file : List ℕ) (s now : MachineState) (proc : Proc) → with_file file s ≡ now → processor_of s proc ≡ processor_of now proc
 own_loaded file s now proc is = sym (own_put file s proc) ∙ ap (λ (m : MachineState). processor_of m proc) is
-
-pub first_loaded : (until : ℕ) (file : List ℕ) (s now : MachineState) (first : Option First) → with_file file s ≡ now → IfSome first (λ f. IsFirst until s f) → IfSome first (λ f. IsFirst until now f)
-first_loaded until file s now None is h = tt
-first_loaded until file s now (Some f) is h = subst (λ (m : MachineState). IsFirst until m f) is (is_first_put file until s f h)
 
 pub limit_loaded : (until : ℕ) (file : List ℕ) (s now : MachineState) (proc : Proc) (limit : Option ℕ) → with_file file s ≡ now → IfSome limit (λ n. HasLimit until s proc n)
     → IfSome limit (λ n. HasLimit until now proc n)

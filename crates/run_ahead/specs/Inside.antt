@@ -4,12 +4,13 @@ use Rattle.ds_base.specs.declared.processors.Proc.{Proc}
 use Rattle.ds_runs.specs.Runs.{Makes, Stops}
 use Rattle.ds_machine.specs.Lagging.{CatchesUpFor}
 use Rattle.ds_machine.specs.Private.{rank_of}
-use Rattle.ds_machine.specs.TurnSteps.{BelongsToTurn, IsFirst, TakesSteps}
+use Rattle.ds_machine.specs.TurnSteps.{BelongsToTurn, HasEnds, IsFirst, TakesSteps}
 use Rattle.ds_machine.specs.Reference.{next_shown, reference_step}
 use Rattle.ds_machine.specs.States.{MachineState}
 use Rattle.ds_machine.specs.Steps.{processor_of}
 use Rattle.ds_machine.specs.declared.answers.Done.{Done}
 use Rattle.ds_machine.specs.declared.answers.Done.TheVariants as answers
+use Rattle.ds_machine.specs.declared.next_events.Ends.{Ends}
 use Rattle.ds_machine.specs.declared.next_events.First.{First}
 use Rattle.run_ahead.specs.Consoles.{ConsoleState}
 use Rattle.run_ahead.specs.declared.machine_turns.Slow.{Slow}
@@ -54,3 +55,9 @@ pub record IsAtOnce (until : ℕ) (c : ConsoleState) (first : First) : Type 0 wh
   pub known : IsFirst until c.machine first
   pub same : max c.limit until ≡ c.limit
   pub still_open : c.stopped ≡ None
+
+-- by these such a processor is found, where it is known at once
+pub record AreAtOnce (until : ℕ) (c : ConsoleState) (ends : Ends) : Type 0 where
+  pub known : HasEnds until c.machine ends
+  pub same : 0 < ends.end → max c.limit until ≡ c.limit
+  pub still_open : 0 < ends.end → c.stopped ≡ None

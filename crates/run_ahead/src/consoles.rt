@@ -10,9 +10,10 @@ ghost use Rattle.ds_ipc.specs.Ipcs.{AreSides};
 ghost use Rattle.ds_machine.specs.Sound.{HasSoundParts, IsSound};
 ghost use Rattle.ds_machine.specs.StepAnswers.{IsDue};
 ghost use Rattle.ds_machine.specs.Statuses.{HasBothStatuses};
+ghost use Rattle.ds_machine.specs.TurnSteps.{HasEnds};
 ghost use Rattle.ds_machine.specs.Within.{IsWithinTick};
 ghost use Rattle.run_ahead.specs.Consoles.{AreWithin};
-ghost use Rattle.run_ahead.specs.Inside.{IsAtOnce};
+ghost use Rattle.run_ahead.specs.Inside.{AreAtOnce, IsAtOnce};
 ghost use Rattle.run_ahead.specs.Turns.{Turns, TurnsUpTo, RunsOn, HasRuns, turns_remaining, counted_of, shown_in};
 ghost use Rattle.ds_base.specs.declared.left_out.LeftOut.{LeftOut};
 ghost use Rattle.run_ahead.specs.declared.turns.Turned.TheVariants.{Ran, Stopped};
@@ -24,7 +25,7 @@ use crate::machine_turns::{take_stretch_of, take_turn};
 use crate::turns::Turned;
 use ds_base::{Due, Keys, LeftOut, Memory, Proc, Tick};
 use ds_header::Cart;
-use ds_machine::{Done, First, Seen, time_laws};
+use ds_machine::{Done, Ends, First, Seen, time_laws};
 use gx_geometry::Lists;
 pub use saved::state_laws;
 use std::alloc::{AllocError, Global};
@@ -118,16 +119,17 @@ impl Console {
         ensures other { result ≢ Ran }
         ensures falls { counted_of result ≡ 1 → turns_remaining until.0 self.new.machine < turns_remaining until.0 self.old.machine }
     {
+        let mut ends = self.ends(until);
         'run: loop {
             self.laws();
-            if let Some(first) = self.first_at_once(until) {
-                if self.take_at_once(first, until) {
+            if let Some(first) = ends.first() {
+                if self.take_at_once(&mut ends, first, until) {
                     return self.stop_answer();
                 }
                 continue 'run;
             }
             match self.turn(until) {
-                Turned::Ran => {}
+                Turned::Ran => ends = self.ends(until),
                 answer => return answer,
             }
         }
@@ -151,32 +153,35 @@ impl Console {
         self.machine.laws();
     }
 
-    /// The processor whose turn can be taken at once: it is known to be the least acting actor, and its turn raises no limit.
+    /// By these the processor is found whose turn can be taken at once: it is known to be the least acting actor, and its turn raises no limit.
     #[inline(always)]
-    fn first_at_once(&self, until: Tick) -> Option<First>
-        requires { until.0 ≤ 2 ^ 56 }
-        ensures { IfSome result (IsAtOnce until.0 self.now) }
+    fn ends(&self, until: Tick) -> Ends
+        ensures { AreAtOnce until.0 self.now result }
     {
         let most = self.open_until;
+        let ends = self.machine.ends(until);
         if until.0 > most {
-            return None;
+            return Ends {
+                end: 0,
+                nine: ends.nine,
+                seven: ends.seven,
+            };
         }
-        let Some(first) = self.machine.first(until) else {
-            return None;
-        };
-        Some(first)
+        ends
     }
 
     /// The turn of such a processor, on the fast path, which has one caller. The answer is whether it stopped: the stop itself would be moved at each
     /// turn.
     #[inline(always)]
-    fn take_at_once(&mut self, first: First, until: Tick) -> bool
+    fn take_at_once(&mut self, ends: &mut Ends, first: First, until: Tick) -> bool
         requires early { until.0 ≤ 2 ^ 56 }
         requires first { IsAtOnce until.0 self.old first }
+        requires ends { HasEnds until.0 self.old.machine ends.old }
         ensures ran { result ≡ false → Turns until.0 self.old Ran self.new }
         ensures stopped { result ≡ true → (left : LeftOut) × (self.new.stopped ≡ Some left) × Turns until.0 self.old (Stopped left) self.new }
+        ensures ends { result ≡ false → AreAtOnce until.0 self.new ends.new }
     {
-        if take_stretch_of(&mut self.machine, &mut self.stopped, first, until) {
+        if take_stretch_of(&mut self.machine, &mut self.stopped, ends, first, until) {
             self.open_until = 0;
             return true;
         }

@@ -5,7 +5,7 @@ ghost use Rattle.ds_state.specs.Formats.{bytes_written};
 ghost use Rattle.ds_state.specs.Reading.{GivesIn, read_format};
 ghost use Rattle.run_ahead.specs.Saved.{format_behind};
 ghost use Rattle.run_ahead.specs.declared.heads.Head.{Head};
-ghost use Rattle.ds_ipc.specs.Ipcs.{AreSides};
+ghost use Rattle.ds_ipc.specs.Ipcs.{AreSides, other_proc};
 ghost use Rattle.ds_ports.specs.Io.{io_at_boot};
 ghost use Rattle.ds_machine.specs.Acting.{is_behind, IsActing};
 ghost use Rattle.ds_machine.specs.Back.{HasMachineBounds};
@@ -18,13 +18,13 @@ ghost use Rattle.ds_machine.specs.States.{with_file, MachineState};
 ghost use Rattle.ds_machine.specs.Statuses.{HasBothStatuses};
 ghost use Rattle.ds_machine.specs.StepAnswers.{done_of, Steps};
 ghost use Rattle.ds_machine.specs.Steps.{processor_of, tick_of};
-ghost use Rattle.ds_machine.specs.TurnSteps.{BelongsToTurn, HasLimit, IsFirst, MayAct, MayStep, TakesSteps};
+ghost use Rattle.ds_machine.specs.TurnSteps.{due_or_never, BelongsToTurn, HasEnds, HasLimit, IsEnd, MayAct, MayStep, TakesSteps};
 ghost use Rattle.gx_fifo.specs.GxStates.{IsGx};
 
 use crate::heads::Head;
 use ds_base::{Due, Keys, LeftOut, Proc, Tick};
 use ds_header::Cart;
-use ds_machine::{Done, First, Machine};
+use ds_machine::{Done, Ends, Machine};
 use ds_state::{Packer, Unpacked, Unpacker};
 use std::alloc::{AllocError, Global};
 use std::marker::Model;
@@ -77,13 +77,12 @@ impl Loaded {
         self.machine.acting()
     }
 
-    /// The processor that is the least acting actor and due below a limit, where that is known at once.
+    /// By these the processor whose turn begins is found, where it is known at once.
     #[inline(always)]
-    pub fn first(&self, until: Tick) -> Option<First>
-        requires { until.0 ≤ 2 ^ 56 }
-        ensures { IfSome result (λ first. IsFirst until.0 self.now first) }
+    pub fn ends(&self, until: Tick) -> Ends
+        ensures { HasEnds until.0 self.now result }
     {
-        self.machine.first(until)
+        self.machine.ends(until)
     }
 
     /// The first tick at which a processor that isn't blocked isn't the least acting actor, or isn't due below a limit, any more, where that is
@@ -163,15 +162,18 @@ impl Loaded {
 
     /// A processor takes steps of its turn with a limit, while they are of the fast path. The answer is whether its turn is over.
     #[inline(always)]
-    pub fn go_fast(&mut self, proc: Proc, until: Tick, limit: u64) -> bool
+    pub fn go_fast(&mut self, proc: Proc, until: Tick, end: u64, limit: u64) -> bool
         requires running { IsRunning last_limit self.old }
         requires early { until.0 ≤ 2 ^ 56 }
         requires limit { HasLimit until.0 self.old proc limit }
+        requires end { 0 < end → IsEnd until.0 self.old end }
         ensures steps { TakesSteps until.0 proc self.old self.new }
         ensures over { result ≡ true → BelongsToTurn until.0 self.new proc → ⊥ }
         ensures limit { HasLimit until.0 self.new proc limit }
+        ensures end { 0 < end → IsEnd until.0 self.new end }
+        ensures other { due_or_never self.new (other_proc proc) ≡ due_or_never self.old (other_proc proc) }
     {
-        self.machine.go_fast(proc, until, limit)
+        self.machine.go_fast(proc, until, end, limit)
     }
 
     /// Takes the steps of quiet geometry that are due before a place in the order of steps, before which nobody acts.

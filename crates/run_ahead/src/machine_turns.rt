@@ -2,7 +2,7 @@
 
 ghost use Rattle.std.specs.Prelude.{◌≡◌, ◌<◌, ◌≤◌, ◌^◌, false, true, None, Some};
 ghost use Rattle.ds_base.specs.declared.left_out.LeftOut.{LeftOut};
-ghost use Rattle.ds_machine.specs.TurnSteps.{HasLimit};
+ghost use Rattle.ds_machine.specs.TurnSteps.{HasEnds, HasLimit};
 ghost use Rattle.ds_machine.specs.Steps.{processor_of};
 ghost use Rattle.ds_machine.specs.Acting.{IsActing, is_behind};
 ghost use Rattle.ds_machine.specs.Counting.{last_limit, IsRunning};
@@ -11,7 +11,7 @@ ghost use Rattle.run_ahead.specs.Inside.{HasProcessor, TookSlowly, TookStretch, 
 
 use crate::loaded::Loaded;
 use ds_base::{Due, LeftOut, Proc, Tick};
-use ds_machine::{Done, First};
+use ds_machine::{Done, Ends, First};
 use ds_runs::Actor;
 
 /// The processor of a rank, where it is one's.
@@ -66,11 +66,13 @@ fn step_slowly(
 
 /// Takes a processor's steps that belong to its turn with a limit, one after another, up to the first that doesn't, or to one that stops the machine,
 /// whose stop is put where stops are kept. The answer is whether there is one. It begins with the first tick at which the processor isn't the least
-/// acting one any more.
+/// acting one any more, and with that by which it was found, and leaves that by which the next turn's processor is: steps of the fast path move the
+/// processor's tick alone, after any other all is asked for again.
 #[inline(always)]
 pub fn take_stretch(
     machine: &mut Loaded,
     stop: &mut Option<LeftOut>,
+    ends: &mut Ends,
     proc: Proc,
     until: Tick,
     first: u64,
@@ -78,24 +80,35 @@ pub fn take_stretch(
     requires early { until.0 ≤ 2 ^ 56 }
     requires going { IsRunning last_limit machine.old }
     requires limit { HasLimit until.0 machine.old proc first }
+    requires ends { HasEnds until.0 machine.old ends.old }
     requires running { stop.old ≡ None }
     ensures took { TookStretch until.0 proc machine.old stop.new machine.new }
     ensures goes { result ≡ false → stop.new ≡ None }
     ensures stops { result ≡ true → (left : LeftOut) × (stop.new ≡ Some left) }
+    ensures ends { result ≡ false → HasEnds until.0 machine.new ends.new }
 {
     let mut limit = first;
     'steps: loop {
-        if machine.go_fast(proc, until, limit) {
+        if machine.go_fast(proc, until, ends.end, limit) {
+            ends.put(proc, machine.tick_of(proc));
             return false;
         }
         match step_slowly(machine, stop, proc, until, limit) {
             Slow::Took => {}
-            Slow::Over => return false,
+            Slow::Over => {
+                *ends = machine.ends(until);
+                return false;
+            }
             Slow::Stopped => return true,
         }
+        *ends = machine.ends(until);
         match machine.limit_of(proc, until) {
             Some(next) => limit = next,
-            None => return end_slowly(machine, stop, proc, until),
+            None => {
+                let stopped = end_slowly(machine, stop, proc, until);
+                *ends = machine.ends(until);
+                return stopped;
+            }
         }
     }
 }
@@ -105,21 +118,24 @@ pub fn take_stretch(
 pub fn take_stretch_of(
     machine: &mut Loaded,
     stop: &mut Option<LeftOut>,
+    ends: &mut Ends,
     first: First,
     until: Tick,
 ) -> bool
     requires early { until.0 ≤ 2 ^ 56 }
     requires going { IsRunning last_limit machine.old }
     requires limit { HasLimit until.0 machine.old first.proc first.limit }
+    requires ends { HasEnds until.0 machine.old ends.old }
     requires running { stop.old ≡ None }
     ensures took { TookStretch until.0 first.proc machine.old stop.new machine.new }
     ensures goes { result ≡ false → stop.new ≡ None }
     ensures stops { result ≡ true → (left : LeftOut) × (stop.new ≡ Some left) }
+    ensures ends { result ≡ false → HasEnds until.0 machine.new ends.new }
 {
     let limit = first.limit;
     match first.proc {
-        Proc::Nine => take_stretch(machine, stop, Proc::Nine, until, limit),
-        Proc::Seven => take_stretch(machine, stop, Proc::Seven, until, limit),
+        Proc::Nine => take_stretch(machine, stop, ends, Proc::Nine, until, limit),
+        Proc::Seven => take_stretch(machine, stop, ends, Proc::Seven, until, limit),
     }
 }
 

@@ -1,7 +1,10 @@
-use Rattle.std.proofs.Common.{◌<◌, true≢false, [], Option, sym, subst, arith}
+use Rattle.std.proofs.Common.{◌<◌, true≢false, [], Option, sym, ap, subst, arith}
 use Rattle.ds_base.specs.declared.left_out.LeftOut.{LeftOut}
+use Rattle.ds_base.specs.declared.ticks.Tick.{Tick}
 use Rattle.ds_machine.specs.Counting.{last_limit}
-use Rattle.ds_machine.specs.TurnSteps.{BelongsToTurn, TakesSteps, no_steps, more_steps, own_remaining}
+use Rattle.ds_machine.specs.TurnSteps.{BelongsToTurn, HasEnds, TakesSteps, no_steps, more_steps, own_remaining}
+use Rattle.ds_machine.specs.declared.next_events.Ends.{Ends}
+use Rattle.ds_machine.proofs.EndTicks.{ends_after}
 use Rattle.ds_machine.specs.States.{MachineState}
 use Rattle.ds_machine.proofs.OwnRemaining.{turn_steps_fall}
 use Rattle.ds_machine.proofs.TurnSteps.{running_along}
@@ -10,14 +13,24 @@ use Rattle.run_ahead.proofs.Stretches.{own_along, sound_along, takes_twice, took
 use Rattle.run_ahead.proofs.machine_turns.take_stretch.Goals as goal
 
 pub steps-init : goal.steps-init
-steps-init c = (no_steps c.args.machine.now, c.requires.running, c.requires.limit)
+steps-init c = (no_steps c.args.machine.now, c.requires.running, c.requires.limit, c.requires.ends)
 
 pub returns-then-go_fast : goal.returns-then-go_fast
 returns-then-go_fast c = record {
   took = subst (λ (o : Option LeftOut). TookStretch c.args.until.0 c.args.proc c.args.machine.now o c.go_fast.new.self) (sym c.steps.invariant.1) ((takes_twice c.args.until.0 c.args.proc c.args.machine.now c.steps.machine c.go_fast.new.self c.steps.invariant.0 c.go_fast.ensures.steps), c.go_fast.ensures.over c.if-go_fast.true);
   goes = λ e. c.steps.invariant.1;
   stops = λ e. absurd (true≢false (sym e));
+  ends = λ e.
+      subst (λ (x : Ends). HasEnds c.args.until.0 c.go_fast.new.self x) (sym c.put.ensures)
+      (ends_after c.args.until.0 c.steps.machine c.go_fast.new.self c.steps.ends c.args.proc _ c.steps.invariant.3 c.go_fast.ensures.end c.go_fast.ensures.other c.go_fast.ensures.limit.free
+      (ap (λ (t : Tick). t.0) c.tick_of.ensures));
 }
+
+pub go_fast-requires-clause-limit : goal.go_fast-requires-clause-limit
+go_fast-requires-clause-limit c = c.steps.invariant.2
+
+pub go_fast-requires-clause-end : goal.go_fast-requires-clause-end
+go_fast-requires-clause-end c = c.steps.invariant.3.end
 
 pub go_fast-requires-clause-running : goal.go_fast-requires-clause-running
 go_fast-requires-clause-running c =
@@ -43,6 +56,7 @@ returns-in-Over c =
       );
       goes = λ e. no_steps;
       stops = λ e. absurd (true≢false (sym e));
+      ends = λ e. c.ends.ensures;
     }
 
 pub returns-in-Stopped : goal.returns-in-Stopped
@@ -53,20 +67,21 @@ returns-in-Stopped c =
           (c.go_fast.new.self, (takes_twice c.args.until.0 c.args.proc c.args.machine.now c.steps.machine c.go_fast.new.self c.steps.invariant.0 c.go_fast.ensures.steps), c.in-Stopped.ensures.0, stop.2);
       goes = λ e. absurd (true≢false e);
       stops = λ e. (stop.0, stop.1);
+      ends = λ e. absurd (true≢false e);
     }
 
 pub steps-preserved : goal.steps-preserved
-steps-preserved c = (more_steps c.args.machine.now c.go_fast.new.self c.in-Took.ensures.1.0 c.step_slowly.new.machine (takes_twice c.args.until.0 c.args.proc c.args.machine.now c.steps.machine c.go_fast.new.self c.steps.invariant.0 c.go_fast.ensures.steps) c.in-Took.ensures.0 c.in-Took.ensures.1.1 c.in-Took.ensures.1.2, c.in-Took.ensures.2, c.in-Some.ensures)
+steps-preserved c = (more_steps c.args.machine.now c.go_fast.new.self c.in-Took.ensures.1.0 c.step_slowly.new.machine (takes_twice c.args.until.0 c.args.proc c.args.machine.now c.steps.machine c.go_fast.new.self c.steps.invariant.0 c.go_fast.ensures.steps) c.in-Took.ensures.0 c.in-Took.ensures.1.1 c.in-Took.ensures.1.2, c.in-Took.ensures.2, c.in-Some.ensures, c.ends-in-steps.ensures)
 
-pub end_slowly-requires-clause-going : goal.end_slowly-requires-clause-going
-end_slowly-requires-clause-going c =
+pub end_slowly-stopped-requires-clause-going : goal.end_slowly-stopped-requires-clause-going
+end_slowly-stopped-requires-clause-going c =
     let early = c.requires.early in
     running_along c.args.until.0 last_limit c.args.proc c.args.machine.now c.step_slowly.new.machine (omega (arith, early))
     (more_steps c.args.machine.now c.go_fast.new.self c.in-Took.ensures.1.0 c.step_slowly.new.machine (takes_twice c.args.until.0 c.args.proc c.args.machine.now c.steps.machine c.go_fast.new.self c.steps.invariant.0 c.go_fast.ensures.steps) c.in-Took.ensures.0 c.in-Took.ensures.1.1 c.in-Took.ensures.1.2) c.requires.going
 
 pub returns-in-None-clause-took : goal.returns-in-None-clause-took
-returns-in-None-clause-took c = took_twice c.args.until.0 c.args.proc c.args.machine.now c.step_slowly.new.machine c.end_slowly.new.machine c.end_slowly.new.stop
-    (more_steps c.args.machine.now c.go_fast.new.self c.in-Took.ensures.1.0 c.step_slowly.new.machine (takes_twice c.args.until.0 c.args.proc c.args.machine.now c.steps.machine c.go_fast.new.self c.steps.invariant.0 c.go_fast.ensures.steps) c.in-Took.ensures.0 c.in-Took.ensures.1.1 c.in-Took.ensures.1.2) c.end_slowly.ensures.took
+returns-in-None-clause-took c = took_twice c.args.until.0 c.args.proc c.args.machine.now c.step_slowly.new.machine c.end_slowly-stopped.new.machine c.end_slowly-stopped.new.stop
+    (more_steps c.args.machine.now c.go_fast.new.self c.in-Took.ensures.1.0 c.step_slowly.new.machine (takes_twice c.args.until.0 c.args.proc c.args.machine.now c.steps.machine c.go_fast.new.self c.steps.invariant.0 c.go_fast.ensures.steps) c.in-Took.ensures.0 c.in-Took.ensures.1.1 c.in-Took.ensures.1.2) c.end_slowly-stopped.ensures.took
 
 pub steps-smaller : goal.steps-smaller
 steps-smaller c =

@@ -1,34 +1,43 @@
-use Rattle.std.proofs.Common.{refl, sym, ◌∙◌, ap, subst, arith}
+use Rattle.std.proofs.Common.{refl, sym, ◌∙◌, ap, subst}
+use Rattle.std.specs.Prelude.{◌<◌}
+use Rattle.ds_ipc.specs.Ipcs.{other_proc}
 use Rattle.ds_machine.specs.Counting.{RunsWithSome}
 use Rattle.ds_machine.specs.NextEvents.{IsNextEvent}
 use Rattle.ds_machine.specs.States.{MachineState}
-use Rattle.ds_machine.specs.TurnSteps.{BelongsToTurn, HasLimit, TakesSteps, no_steps}
+use Rattle.ds_machine.specs.TurnSteps.{BelongsToTurn, HasLimit, IsEnd, TakesSteps, due_or_never, no_steps}
 use Rattle.ds_machine.specs.declared.next_events.NextEvent.{NextEvent}
-use Rattle.ds_machine.proofs.FastTurns.{goes_first, goes_has_limit, goes_on, goes_same}
+use Rattle.ds_machine.proofs.EndTicks.{other_never}
+use Rattle.ds_machine.proofs.FastTurns.{goes_first, goes_on, goes_same}
 use Rattle.ds_machine.proofs.GoingSteps.{statuses_taken}
 use Rattle.ds_machine.proofs.machines.Machine.go_fast.Goals as goal
 
-pub returns-then-next_event-eq0-clause-steps : goal.returns-then-next_event-eq0-clause-steps
-returns-then-next_event-eq0-clause-steps c = no_steps c.args.self.now
+pub returns-then-line-clause-steps : goal.returns-then-line-clause-steps
+returns-then-line-clause-steps c = no_steps c.args.self.now
 
-pub returns-then-next_event-eq0-clause-limit : goal.returns-then-next_event-eq0-clause-limit
-returns-then-next_event-eq0-clause-limit c = c.requires.limit
+pub returns-then-line-clause-limit : goal.returns-then-line-clause-limit
+returns-then-line-clause-limit c = c.requires.limit
+
+pub returns-then-line-clause-end : goal.returns-then-line-clause-end
+returns-then-line-clause-end c = c.requires.end
 
 pub steps-init : goal.steps-init
-steps-init c =
-    let some = c.if-next_event-eq0.false in (
-      goes_first c.args.until.0 c.args.proc c.self.inside.next_event c.args.limit c.self.inside.parts c.self.invariant.0 (omega (arith, some)) c.requires.early
-          (subst RunsWithSome (sym c.self.view_is) c.requires.running)
-          (subst (λ (m : MachineState). HasLimit c.args.until.0 m c.args.proc c.args.limit) (sym c.self.view_is) c.requires.limit),
-      refl,
-    )
+steps-init c = (
+  goes_first c.args.until.0 c.args.proc c.self.inside.next_event c.args.end c.args.limit c.self.inside.parts (record {
+    kept = c.self.invariant.0;
+    down = sym c.line.ensures ∙ c.if-line.false;
+    events = subst (λ (m : MachineState). 0 < c.args.end → IsEnd c.args.until.0 m c.args.end) (sym c.self.view_is) c.requires.end;
+    least = subst (λ (m : MachineState). HasLimit c.args.until.0 m c.args.proc c.args.limit) (sym c.self.view_is) c.requires.limit;
+    running = subst RunsWithSome (sym c.self.view_is) c.requires.running;
+  }),
+  refl,
+)
 
 pub step_fast-requires-clause-goes : goal.step_fast-requires-clause-goes
 step_fast-requires-clause-goes c = c.steps.invariant.0.goes
 
 pub steps-preserved : goal.steps-preserved
 steps-preserved c = (
-  goes_on c.args.until.0 c.args.proc c.self.inside.next_event c.args.limit c.self.inside.parts c.steps.self-inside.parts c.step_fast.new.self
+  goes_on c.args.until.0 c.args.proc c.self.inside.next_event c.args.end c.args.limit c.self.inside.parts c.steps.self-inside.parts c.step_fast.new.self
       c.steps.invariant.0 c.in-Took.ensures,
   c.steps.invariant.1,
 )
@@ -39,7 +48,7 @@ steps-smaller c = c.in-Took.ensures.0.fewer
 pub invariant_of-self : goal.invariant_of-self
 invariant_of-self c =
     let now = c.step_fast.new.self in
-    let g = goes_same c.args.until.0 c.args.proc c.self.inside.next_event c.args.limit c.self.inside.parts c.steps.self-inside.parts now c.steps.invariant.0 c.in-Over.ensures.1 in (
+    let g = goes_same c.args.until.0 c.args.proc c.self.inside.next_event c.args.end c.args.limit c.self.inside.parts c.steps.self-inside.parts now c.steps.invariant.0 c.in-Over.ensures.1 in (
       subst (λ (k : NextEvent). IsNextEvent k now) (sym c.steps.invariant.1) g.goes.kept,
       statuses_taken c.args.until.0 c.args.proc c.self.inside.parts now g.steps c.self.invariant.1,
     )
@@ -47,7 +56,7 @@ invariant_of-self c =
 pub invariant_of-self-in-Unknown : goal.invariant_of-self-in-Unknown
 invariant_of-self-in-Unknown c =
     let now = c.step_fast.new.self in
-    let g = goes_same c.args.until.0 c.args.proc c.self.inside.next_event c.args.limit c.self.inside.parts c.steps.self-inside.parts now c.steps.invariant.0 c.in-Unknown.ensures in (
+    let g = goes_same c.args.until.0 c.args.proc c.self.inside.next_event c.args.end c.args.limit c.self.inside.parts c.steps.self-inside.parts now c.steps.invariant.0 c.in-Unknown.ensures in (
       subst (λ (k : NextEvent). IsNextEvent k now) (sym c.steps.invariant.1) g.goes.kept,
       statuses_taken c.args.until.0 c.args.proc c.self.inside.parts now g.steps c.self.invariant.1,
     )
@@ -56,28 +65,39 @@ pub returns-in-Over : goal.returns-in-Over
 returns-in-Over c =
     let until = c.args.until.0 in
     let now = c.step_fast.new.self in
-    let g = goes_same until c.args.proc c.self.inside.next_event c.args.limit c.self.inside.parts c.steps.self-inside.parts now c.steps.invariant.0 c.in-Over.ensures.1 in
+    let g = goes_same until c.args.proc c.self.inside.next_event c.args.end c.args.limit c.self.inside.parts c.steps.self-inside.parts now c.steps.invariant.0 c.in-Over.ensures.1 in
     record {
       steps = subst (λ (m : MachineState). TakesSteps until c.args.proc m now) c.self.view_is g.steps;
       over = λ over b. c.in-Over.ensures.0 (subst (λ (m : MachineState). BelongsToTurn until m c.args.proc) c.in-Over.ensures.1 b);
-      io = g.io ∙ ap (λ (m : MachineState). m.io) c.self.view_is;
-      limit = goes_has_limit until c.args.proc c.self.inside.next_event c.args.limit now g.goes c.requires.early;
+      io = g.leaves.beside.io ∙ ap (λ (m : MachineState). m.io) c.self.view_is;
+      limit = g.goes.least;
+      end = g.goes.events;
+      other = other_never c.self.inside.parts now c.args.proc g.leaves ∙ ap (λ (m : MachineState). due_or_never m (other_proc c.args.proc)) c.self.view_is;
     }
 
 pub returns-in-Unknown-clause-steps : goal.returns-in-Unknown-clause-steps
 returns-in-Unknown-clause-steps c =
     let until = c.args.until.0 in
     let now = c.step_fast.new.self in
-    let g = goes_same until c.args.proc c.self.inside.next_event c.args.limit c.self.inside.parts c.steps.self-inside.parts now c.steps.invariant.0 c.in-Unknown.ensures in
+    let g = goes_same until c.args.proc c.self.inside.next_event c.args.end c.args.limit c.self.inside.parts c.steps.self-inside.parts now c.steps.invariant.0 c.in-Unknown.ensures in
     subst (λ (m : MachineState). TakesSteps until c.args.proc m now) c.self.view_is g.steps
 
 pub returns-in-Unknown-clause-io : goal.returns-in-Unknown-clause-io
 returns-in-Unknown-clause-io c =
-    ap (λ (m : MachineState). m.io) c.in-Unknown.ensures ∙ c.steps.invariant.0.io ∙ ap (λ (m : MachineState). m.io) c.self.view_is
+    ap (λ (m : MachineState). m.io) c.in-Unknown.ensures ∙ c.steps.invariant.0.leaves.beside.io ∙ ap (λ (m : MachineState). m.io) c.self.view_is
 
 pub returns-in-Unknown-clause-limit : goal.returns-in-Unknown-clause-limit
 returns-in-Unknown-clause-limit c =
-    let until = c.args.until.0 in
     let now = c.step_fast.new.self in
-    let g = goes_same until c.args.proc c.self.inside.next_event c.args.limit c.self.inside.parts c.steps.self-inside.parts now c.steps.invariant.0 c.in-Unknown.ensures in
-    goes_has_limit until c.args.proc c.self.inside.next_event c.args.limit now g.goes c.requires.early
+    (goes_same c.args.until.0 c.args.proc c.self.inside.next_event c.args.end c.args.limit c.self.inside.parts c.steps.self-inside.parts now c.steps.invariant.0 c.in-Unknown.ensures).goes.least
+
+pub returns-in-Unknown-clause-end : goal.returns-in-Unknown-clause-end
+returns-in-Unknown-clause-end c =
+    let now = c.step_fast.new.self in
+    (goes_same c.args.until.0 c.args.proc c.self.inside.next_event c.args.end c.args.limit c.self.inside.parts c.steps.self-inside.parts now c.steps.invariant.0 c.in-Unknown.ensures).goes.events
+
+pub returns-in-Unknown-clause-other : goal.returns-in-Unknown-clause-other
+returns-in-Unknown-clause-other c =
+    let now = c.step_fast.new.self in
+    let g = goes_same c.args.until.0 c.args.proc c.self.inside.next_event c.args.end c.args.limit c.self.inside.parts c.steps.self-inside.parts now c.steps.invariant.0 c.in-Unknown.ensures in
+    other_never c.self.inside.parts now c.args.proc g.leaves ∙ ap (λ (m : MachineState). due_or_never m (other_proc c.args.proc)) c.self.view_is

@@ -1,4 +1,6 @@
-use Rattle.std.proofs.Common.{refl, sym, subst, arith}
+use Rattle.std.proofs.Common.{Option, refl, sym, subst, arith}
+use Rattle.std.specs.Prelude.{IsSome}
+use Rattle.ds_machine.specs.declared.next_events.First.{First}
 use Rattle.run_ahead.specs.Turns.{TurnsUpTo}
 use Rattle.run_ahead.specs.declared.turns.Turned as turned
 use Rattle.run_ahead.specs.declared.turns.Turned.TheVariants as answers
@@ -7,7 +9,19 @@ use Rattle.run_ahead.proofs.TurnLaws.{runs_on, turn_falls, turn_frames, turn_lis
 use Rattle.run_ahead.proofs.consoles.Console.run_on.Goals as goal
 
 pub run-init : goal.run-init
-run-init c = record { ran = ran_first c.args.until.0 c.args.self.now; left = omega arith }
+run-init c = record { ran = ran_first c.args.until.0 c.args.self.now; left = omega arith; ends = c.ends-ends.ensures }
+
+pub take_at_once-requires-clause-first : goal.take_at_once-requires-clause-first
+take_at_once-requires-clause-first c =
+    let some = c.first.ensures.some (subst (λ (o : Option First). IsSome o) (sym c.in-Some.is) refl) in
+    record {
+      known = c.in-Some.ensures.known c.args.until.0 c.run.self.machine c.requires c.run.invariant.ends.known;
+      same = c.run.invariant.ends.same some;
+      still_open = c.run.invariant.ends.still_open some;
+    }
+
+pub take_at_once-requires-clause-ends : goal.take_at_once-requires-clause-ends
+take_at_once-requires-clause-ends c = c.run.invariant.ends.known
 
 pub run-preserved-in-Some : goal.run-preserved-in-Some
 run-preserved-in-Some c =
@@ -21,6 +35,7 @@ run-preserved-in-Some c =
       ran = ran_more until c.args.self.now c.run.self new c.run.invariant.ran t (runs_on until c.run.self answers.Ran new sound t t.0)
           (turn_frames until c.run.self answers.Ran new sound t) (turn_lists until c.run.self answers.Ran new sound t);
       left = omega (arith, left, falls);
+      ends = c.take_at_once.ensures.ends c.if-take_at_once.false;
     }
 
 pub run-smaller-in-Some : goal.run-smaller-in-Some
@@ -35,6 +50,7 @@ run-preserved c =
     record {
       ran = ran_more c.args.until.0 c.args.self.now c.run.self c.turn.new.self c.run.invariant.ran t (c.in-Ran.ensures.runs t.0) c.in-Ran.ensures.frames c.in-Ran.ensures.lists;
       left = omega (arith, left, falls);
+      ends = c.ends-ends-in-Ran.ensures;
     }
 
 pub returns-in_default-turn : goal.returns-in_default-turn

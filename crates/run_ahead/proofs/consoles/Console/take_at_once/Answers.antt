@@ -2,7 +2,7 @@ use Rattle.std.proofs.Common.{◌≡◌, ◌+◌, ◌⊎◌, max, [], Option, No
 use Rattle.std.proofs.lemmas.Option.{none-some}
 use Rattle.ds_base.specs.declared.left_out.LeftOut.{LeftOut}
 use Rattle.ds_machine.specs.Counting.{last_limit}
-use Rattle.ds_machine.specs.TurnSteps.{HasLimit, IsLeastBelow}
+use Rattle.ds_machine.specs.TurnSteps.{HasEnds, HasLimit, IsLeastBelow}
 use Rattle.ds_machine.proofs.Running.{counts_add_up, limits_rise}
 use Rattle.run_ahead.specs.Consoles.{ConsoleState, open_of}
 use Rattle.run_ahead.specs.Inside.{TookStretch}
@@ -22,6 +22,16 @@ take_stretch_of-requires-clause-running c = ap (λ (x : ConsoleState). x.stopped
 pub take_stretch_of-requires-clause-limit : goal.take_stretch_of-requires-clause-limit
 take_stretch_of-requires-clause-limit c =
     subst (λ (x : ConsoleState). HasLimit c.args.until.0 x.machine c.args.first.proc c.args.first.limit) (sym c.self.view_is) c.requires.first.known.limit
+
+pub take_stretch_of-requires-clause-ends : goal.take_stretch_of-requires-clause-ends
+take_stretch_of-requires-clause-ends c = subst (λ (x : ConsoleState). HasEnds c.args.until.0 x.machine c.args.ends.now) (sym c.self.view_is) c.requires.ends
+
+pub returns-clause-ends : goal.returns-clause-ends
+returns-clause-ends c = λ ran. record {
+  known = c.take_stretch_of.ensures.ends c.if-take_stretch_of.false;
+  same = λ some. subst (λ (x : ConsoleState). max x.limit c.args.until.0 ≡ x.limit) (sym c.self.view_is) c.requires.first.same;
+  still_open = λ some. c.take_stretch_of.ensures.goes c.if-take_stretch_of.false;
+}
 
 pub overflow_add-self : goal.overflow_add-self
 overflow_add-self c = one_fits c.self.inside.turns c.self.inside.limit c.self.inside.machine c.self.invariant.0 c.self.invariant.1 c.self.invariant.4

@@ -1,8 +1,0 @@
-use Rattle.std.proofs.Common.{arith}
-use Rattle.ds_machine.proofs.GoingSteps.{below_events}
-use Rattle.ds_machine.proofs.parts.Parts.is_below_fence.Goals as goal
-
-pub returns-then-tick-next_event : goal.returns-then-tick-next_event
-returns-then-tick-next_event c =
-    let below = c.if-tick-next_event.true in
-    (λ h. below_events c.args.next_event c.args.self.now c.args.proc c.args.tick c.requires (omega (arith, below)), λ k. grind (arith, below))

@@ -98,8 +98,8 @@ pub(crate) fn load_byte<B: Bus, N: Near<B>>(
         ≡ (carried_out B.memory arch s.old (B.state bus.old) (load_meaning s.old rn rd to Byte (λ value. value % 2 ^ 8))).registers }
     ensures state { 0 < result → B.state bus.new
         ≡ (carried_out B.memory arch s.old (B.state bus.old) (load_meaning s.old rn rd to Byte (λ value. value % 2 ^ 8))).state }
-    ensures stepped { 0 < result → (carried_out B.memory arch s.old (B.state bus.old) (load_meaning s.old rn rd to Byte (λ value. value % 2 ^ 8))).stepped
-        ≡ Cost result }
+    ensures stepped { 0 < result
+        → (carried_out B.memory arch s.old (B.state bus.old) (load_meaning s.old rn rd to Byte (λ value. value % 2 ^ 8))).stepped ≡ Cost result }
     ensures ram { 0 < result → is_ram to.address ≡ true }
     ensures same { B.identity bus.new ≡ B.identity bus.old }
 {
@@ -127,7 +127,8 @@ pub(crate) fn load_half<B: Bus, N: Near<B>>(
     ensures state { 0 < result → B.state bus.new
         ≡ (carried_out B.memory arch s.old (B.state bus.old) (load_meaning s.old rn rd to Half (rotated_half arch to.address))).state }
     ensures stepped { 0 < result
-        → (carried_out B.memory arch s.old (B.state bus.old) (load_meaning s.old rn rd to Half (rotated_half arch to.address))).stepped ≡ Cost result }
+        → (carried_out B.memory arch s.old (B.state bus.old) (load_meaning s.old rn rd to Half (rotated_half arch to.address))).stepped
+        ≡ Cost result }
     ensures ram { 0 < result → is_ram to.address ≡ true }
     ensures same { B.identity bus.new ≡ B.identity bus.old }
 {

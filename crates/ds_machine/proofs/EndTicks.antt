@@ -10,12 +10,12 @@ use Rattle.ds_runs.specs.Actors.{actor_of}
 use Rattle.ds_runs.specs.Runs.{due_at}
 use Rattle.ds_machine.specs.Acting.{acting_dues}
 use Rattle.ds_machine.specs.Hearing.{Fences}
-use Rattle.ds_machine.specs.NextEvents.{IsNextEvent, acting_events_of, due_at_least, least_kept, least_of, limit_by, limit_in, past_other, put_in, wait_in, waits_until}
+use Rattle.ds_machine.specs.NextEvents.{IsNextEvent, acting_events_of, due_at_least, least_kept, least_of, limit_by, limit_in, past_other, due_put, wait_in, waits_until}
 use Rattle.ds_machine.specs.Private.{IsBelowFence, rank_of}
 use Rattle.ds_machine.specs.Reference.{due_unless, keys_due, processor_due}
 use Rattle.ds_machine.specs.States.{MachineState, ProcessorState}
 use Rattle.ds_machine.specs.Steps.{is_blocked, processor_of, tick_of}
-use Rattle.ds_machine.specs.TurnSteps.{ComesBeforeEvents, ComesFirst, HasEnds, HasLimit, IsEnd, IsFirst, due_or_never}
+use Rattle.ds_machine.specs.TurnSteps.{ComesBeforeEvents, ComesFirst, HasEnds, HasLimit, IsTurnEnd, IsFirst, due_or_never}
 use Rattle.ds_machine.specs.declared.next_events.Ends.{Ends}
 use Rattle.ds_machine.specs.declared.next_events.First.{First}
 use Rattle.ds_machine.specs.declared.next_events.NextEvent.{NextEvent}
@@ -29,7 +29,7 @@ use Rattle.ds_machine.proofs.Wakes.{Beside}
 
 -- ---- the first tick at which an event acts
 
-pub end_kept : (next_event : NextEvent) (s : MachineState) (until : ℕ) → IsNextEvent next_event s → 0 < next_event.events_until.0 → IsEnd until s (min next_event.events_until.0 until)
+pub end_kept : (next_event : NextEvent) (s : MachineState) (until : ℕ) → IsNextEvent next_event s → 0 < next_event.events_until.0 → IsTurnEnd until s (min next_event.events_until.0 until)
 end_kept next_event s until is some n =
     (λ lt. (omega (arith, lt), λ event at low h. (let k = is.events event at (event_there s event at low h) in omega (arith, k, lt))), λ k. back k.0 k.1) where
       back : n < until → ComesBeforeEvents s n → n < min next_event.events_until.0 until
@@ -40,7 +40,7 @@ end_kept next_event s until is some n =
           omega (arith, lt, first)
 
 -- what is due before it is below the limit of a turn and below the fence
-pub below_end : (until end : ℕ) (s : MachineState) (proc : Proc) (tick : Tick) → IsEnd until s end → tick.0 < end → (tick.0 < until) × IsBelowFence s proc tick
+pub below_end : (until end : ℕ) (s : MachineState) (proc : Proc) (tick : Tick) → IsTurnEnd until s end → tick.0 < end → (tick.0 < until) × IsBelowFence s proc tick
 below_end until end s proc tick is lt = (((is tick.0).0 lt).0, λ rank at there f. below rank at there f (sort_rank rank (acting_low s rank at there))) where
   below : (rank : ℕ) (at : Tick) → due_at (acting_dues s) rank ≡ Some at → Fences (actor_of rank) proc s → (rank < 22) ⊎ ((rank ≡ 22) ⊎ (rank ≡ 23)) → tick.0 < at.0
   below rank at there f (inl event) = ((is tick.0).0 lt).1 rank at event there
@@ -64,7 +64,7 @@ never_free s proc free =
 
 -- ---- from both the first tick at which a processor isn't the least
 
-module _ (s : MachineState) (proc : Proc) (until end : ℕ) (is : IsEnd until s end) (early : until ≤ 2 ^ 56) where
+module _ (s : MachineState) (proc : Proc) (until end : ℕ) (is : IsTurnEnd until s end) (early : until ≤ 2 ^ 56) where
   abbrev other_waits : ℕ
   other_waits = due_or_never s (other_proc proc)
 
@@ -119,7 +119,7 @@ limit_so next_event s proc until limit is some early free same =
 pub ends_kept : (next_event : NextEvent) (s : MachineState) (until : ℕ) (ends : Ends) → IsNextEvent next_event s → ends.end ≡ min next_event.events_until.0 until
     → ends.nine ≡ waits_until next_event s Nine → ends.seven ≡ waits_until next_event s Seven → HasEnds until s ends
 ends_kept next_event s until ends is end nine seven = record {
-  end = λ some. subst (IsEnd until s) (sym end) (end_kept next_event s until is (omega (arith, some, end)));
+  end = λ some. subst (IsTurnEnd until s) (sym end) (end_kept next_event s until is (omega (arith, some, end)));
   nine = nine ∙ never_kept next_event s Nine is;
   seven = seven ∙ never_kept next_event s Seven is;
 }
@@ -157,9 +157,9 @@ first_in until s ends first early has is_limit lt before =
     }
 
 -- and after steps of a processor, of which no other actor hears
-pub ends_after : (until : ℕ) (s next : MachineState) (ends : Ends) (proc : Proc) (tick : ℕ) → HasEnds until s ends → (0 < ends.end → IsEnd until next ends.end)
+pub ends_after : (until : ℕ) (s next : MachineState) (ends : Ends) (proc : Proc) (tick : ℕ) → HasEnds until s ends → (0 < ends.end → IsTurnEnd until next ends.end)
     → due_or_never next (other_proc proc) ≡ due_or_never s (other_proc proc) → is_blocked next proc ≡ false → tick ≡ (processor_of next proc).due
-    → HasEnds until next (put_in ends proc tick)
+    → HasEnds until next (due_put ends proc tick)
 ends_after until s next ends Nine tick has end other free due =
     record { end = end; nine = due ∙ sym (never_free next Nine free); seven = has.seven ∙ sym other }
 ends_after until s next ends Seven tick has end other free due =
@@ -207,7 +207,7 @@ first_stays s next proc n k first other at ne h = elim (sort_rank other (acting_
       first other at ne (subst (λ (r : ℕ). due_at (acting_dues s) r ≡ Some at) (sym e) (acting_processor s (other_proc proc) ∙ other_same s next proc at k there)))
 ]
 
-pub end_stays : (until end : ℕ) (s next : MachineState) → Beside s next → IsEnd until s end → IsEnd until next end
+pub end_stays : (until end : ℕ) (s next : MachineState) → Beside s next → IsTurnEnd until s end → IsTurnEnd until next end
 end_stays until end s next b is n = (
   λ lt. (let k = (is n).0 lt in (k.0, λ event at low h. k.1 event at low (event_same s next event at b low h))),
   λ k. (is n).1 (k.0, λ event at low h. k.1 event at low (event_same next s event at (record { io = sym b.io; keys = sym b.keys }) low h)),

@@ -24,7 +24,7 @@ use Rattle.ds_machine.specs.Statuses.{HasBothStatuses, left_by}
 use Rattle.ds_machine.specs.StepAnswers.{Steps, stepped_of}
 use Rattle.ds_machine.specs.Steps.{ended, goes_on, machine_settled, processor_of, tick_of, wakes, with_io, woken_one}
 use Rattle.ds_machine.specs.Touched.{CartFile, StepsKeepFile, machine_graft, step_with, untouched_by}
-use Rattle.ds_machine.specs.TurnSteps.{BelongsToTurn, HasEnds, HasLimit, IsEnd, MayAct, MayStep, TakesSteps, due_or_never, more_steps, no_steps}
+use Rattle.ds_machine.specs.TurnSteps.{BelongsToTurn, HasEnds, HasLimit, IsTurnEnd, MayAct, MayStep, TakesSteps, due_or_never, more_steps, no_steps}
 use Rattle.ds_machine.specs.declared.answers.Done as answer
 use Rattle.ds_machine.specs.declared.answers.Done.TheVariants as answers
 use Rattle.ds_machine.specs.declared.next_events.Ends.{Ends}
@@ -211,7 +211,7 @@ module _ (file : List ℕ) where
   unfolding acting_dues
   limit_put until s proc limit has = record { free = has.free; first = has.first }
 
-  pub end_put : (until : ℕ) (s : MachineState) (end : ℕ) → IsEnd until s end → IsEnd until (put s) end
+  pub end_put : (until : ℕ) (s : MachineState) (end : ℕ) → IsTurnEnd until s end → IsTurnEnd until (put s) end
   unfolding acting_dues
   end_put until s end is = is
 

@@ -15,7 +15,7 @@ use Rattle.ds_machine.specs.Reference.{keys_due, reference_step}
 use Rattle.ds_machine.specs.Sound.{AreAsleep}
 use Rattle.ds_machine.specs.States.{MachineState}
 use Rattle.ds_machine.specs.Steps.{is_blocked, line_of, processor_of}
-use Rattle.ds_machine.specs.TurnSteps.{BelongsToTurn, HasLimit, IsEnd, own_remaining}
+use Rattle.ds_machine.specs.TurnSteps.{BelongsToTurn, HasLimit, IsTurnEnd, own_remaining}
 use Rattle.ds_machine.specs.declared.going.Gone.{Gone}
 use Rattle.ds_machine.specs.declared.going.Gone.TheVariants as gone
 use Rattle.ds_machine.specs.declared.next_events.Ends.{Ends}
@@ -69,9 +69,9 @@ abbrev pub limit_in : Ends → Proc → ℕ
 limit_in ends proc = min ends.end (past_other proc (wait_in ends (other_proc proc)))
 
 -- and when one of both is due at another tick
-abbrev pub put_in : Ends → Proc → ℕ → Ends
-put_in ends Nine tick = record ends { nine = tick }
-put_in ends Seven tick = record ends { seven = tick }
+abbrev pub due_put : Ends → Proc → ℕ → Ends
+due_put ends Nine tick = record ends { nine = tick }
+due_put ends Seven tick = record ends { seven = tick }
 
 -- what is kept is so of a machine: no actor but the processors acts before a tick; unless that is 0 one acts at it, no halted processor is to wake,
 -- and the units behind the ports are settled; each processor's least tick says whether it is blocked; and its interrupt line is up or isn't
@@ -96,12 +96,12 @@ pub record TookStep (until : ℕ) (proc : Proc) (s next : MachineState) : Type 0
   pub keys : next.keys ≡ s.keys
   pub other : (processor_of next (other_proc proc)).due ≡ (processor_of s (other_proc proc)).due
 
--- what the fast steps of a processor go by: what is kept is so of the machine, which goes on; the processor's line is down; where it is known, this is
--- the first tick at which an event acts; and the first at which the processor isn't the least acting actor, or isn't due below a limit, any more
+-- what the fast steps of a processor go by: what is kept is so of the machine, which goes on; the processor's line is down; where it is known, this
+-- is the first tick at which an event acts; and the first at which the processor isn't the least acting actor, or isn't due below a limit, any more
 pub record GoesFast (until : ℕ) (proc : Proc) (next_event : NextEvent) (end limit : ℕ) (s : MachineState) : Type 0 where
   pub kept : IsNextEvent next_event s
   pub down : line_kept next_event proc ≡ false
-  pub events : 0 < end → IsEnd until s end
+  pub events : 0 < end → IsTurnEnd until s end
   pub least : HasLimit until s proc limit
   pub running : RunsWithSome s
 

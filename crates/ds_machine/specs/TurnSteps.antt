@@ -49,8 +49,8 @@ abbrev pub ComesBeforeEvents : MachineState → ℕ → Type 0
 ComesBeforeEvents s tick = (event : ℕ) (at : Tick) → event < 22 → due_at (acting_dues s) event ≡ Some at → tick < at.0
 
 -- the first tick that doesn't, or isn't below the limit of a turn
-abbrev pub IsEnd : ℕ → MachineState → ℕ → Type 0
-IsEnd until s end = (tick : ℕ) → (tick < end) ↔ ((tick < until) × ComesBeforeEvents s tick)
+abbrev pub IsTurnEnd : ℕ → MachineState → ℕ → Type 0
+IsTurnEnd until s end = (tick : ℕ) → (tick < end) ↔ ((tick < until) × ComesBeforeEvents s tick)
 
 -- when a processor is due; past all ticks of a run while it is blocked
 abbrev pub due_or_never : MachineState → Proc → ℕ
@@ -58,7 +58,7 @@ due_or_never s proc = max (processor_of s proc).due (if is_blocked s proc then 2
 
 -- by these the processor whose turn begins is found: that tick, where it is known, and when both are due
 pub record HasEnds (until : ℕ) (s : MachineState) (ends : Ends) : Type 0 where
-  pub end : 0 < ends.end → IsEnd until s ends.end
+  pub end : 0 < ends.end → IsTurnEnd until s ends.end
   pub nine : ends.nine ≡ due_or_never s Nine
   pub seven : ends.seven ≡ due_or_never s Seven
 

@@ -3,7 +3,7 @@
 ghost use Rattle.std.specs.Prelude.{◌≡◌, ◌↔◌, ◌<◌, ◌≤◌, ◌^◌, ◌⊎◌, false, true};
 ghost use Rattle.ds_machine.specs.NextEvents.{GoesFast, IsNextEvent, WentFast};
 ghost use Rattle.ds_machine.specs.Private.{IsBelowFence};
-ghost use Rattle.ds_machine.specs.TurnSteps.{IsEnd};
+ghost use Rattle.ds_machine.specs.TurnSteps.{IsTurnEnd};
 ghost use Rattle.ds_machine.specs.Touching.{FetchStaysPrivate, MayBeAhead};
 
 use crate::next_events::NextEvent;
@@ -44,7 +44,7 @@ impl Parts {
     /// tick is below both, so the fence is asked for only from there on.
     #[inline(always)]
     fn is_below_both(&self, proc: Proc, until: Tick, end: u64, tick: Tick) -> bool
-        requires { 0 < end → IsEnd until.0 self.now end }
+        requires { 0 < end → IsTurnEnd until.0 self.now end }
         ensures no { result ≡ false → (until.0 ≤ tick.0) ⊎ (IsBelowFence self.now proc tick → ⊥) }
         ensures yes { result ≡ true → (tick.0 < until.0) × IsBelowFence self.now proc tick }
     {
@@ -65,7 +65,7 @@ impl Parts {
         tick: Tick,
     ) -> bool
         requires kept { IsNextEvent next_event self.now }
-        requires end { 0 < end → IsEnd until.0 self.now end }
+        requires end { 0 < end → IsTurnEnd until.0 self.now end }
         ensures no { result ≡ false → (until.0 ≤ tick.0) ⊎ (MayBeAhead tick self.now proc → ⊥) }
         ensures yes { result ≡ true → (tick.0 < until.0) × MayBeAhead tick self.now proc }
     {

@@ -15,7 +15,7 @@ ghost use Rattle.ds_machine.specs.Frames.{framed_of};
 ghost use Rattle.ds_machine.specs.Lagging.{observes_by, CatchesUp, CatchesUpFor, ComesBeforeAll};
 ghost use Rattle.ds_machine.specs.Inspections.{memory_of, registers_of, seen_of};
 ghost use Rattle.ds_machine.specs.Private.{rank_of, IsFence, IsPrivate};
-ghost use Rattle.ds_machine.specs.TurnSteps.{due_or_never, BelongsToTurn, HasEnds, HasLimit, IsEnd, MayAct, MayStep, TakesSteps};
+ghost use Rattle.ds_machine.specs.TurnSteps.{due_or_never, BelongsToTurn, HasEnds, HasLimit, IsTurnEnd, MayAct, MayStep, TakesSteps};
 ghost use Rattle.ds_machine.specs.declared.answers.Private.TheVariants.{Yes};
 ghost use Rattle.ds_machine.specs.Reference.{dues_of};
 ghost use Rattle.ds_machine.specs.Sound.{HasSoundParts};
@@ -164,12 +164,12 @@ impl Machine {
         requires running { RunsWithSome self.old }
         requires early { until.0 ≤ 2 ^ 56 }
         requires limit { HasLimit until.0 self.old proc limit }
-        requires end { 0 < end → IsEnd until.0 self.old end }
+        requires end { 0 < end → IsTurnEnd until.0 self.old end }
         ensures steps { TakesSteps until.0 proc self.old self.new }
         ensures over { result ≡ true → BelongsToTurn until.0 self.new proc → ⊥ }
         ensures io { self.new.io ≡ self.old.io }
         ensures limit { HasLimit until.0 self.new proc limit }
-        ensures end { 0 < end → IsEnd until.0 self.new end }
+        ensures end { 0 < end → IsTurnEnd until.0 self.new end }
         ensures other { due_or_never self.new (other_proc proc) ≡ due_or_never self.old (other_proc proc) }
     {
         let next_event = self.next_event;

@@ -5,7 +5,7 @@ ghost use Rattle.ds_ports.specs.Io.{is_settled};
 ghost use Rattle.ds_runs.specs.Runs.{IsOver, due_at};
 ghost use Rattle.ds_machine.specs.NextEvents as kept;
 ghost use Rattle.ds_machine.specs.NextEvents.{acting_events_of, least_of, due_at_least, least_kept, line_kept, IsNextEvent};
-ghost use Rattle.ds_machine.specs.NextEvents.{limit_by, limit_in, put_in};
+ghost use Rattle.ds_machine.specs.NextEvents.{limit_by, limit_in, due_put};
 ghost use Rattle.ds_machine.specs.Sound.{AreAsleep};
 ghost use Rattle.ds_machine.specs.States.{MachineState};
 ghost use Rattle.ds_machine.specs.Steps.{is_blocked};
@@ -122,7 +122,7 @@ impl Ends {
     /// A processor is due at this tick now.
     #[inline(always)]
     pub fn put(&mut self, proc: Proc, tick: Tick)
-        ensures { self.new ≡ put_in self.old proc tick.0 }
+        ensures { self.new ≡ due_put self.old proc tick.0 }
     {
         match proc {
             Proc::Nine => self.nine = tick.0,

@@ -179,7 +179,8 @@ impl Map {
     #[inline(always)]
     #[tactic(auto, unfolding(crate::specs::Accesses::map_value, crate::specs::Accesses::map_read, crate::specs::Waits::wait_at))]
     pub fn near_given(&self, proc: Proc, at: u32, width: Width) -> Option<Given>
-        ensures value { IfSome result (λ given. (now : Tick) → (io : IoState) → given.number ≡ map_value proc now (map_seen proc self.now io) at width) }
+        ensures value { IfSome result (λ given. (now : Tick) → (io : IoState) → given.number
+            ≡ map_value proc now (map_seen proc self.now io) at width) }
         ensures next { IfSome result (λ _. (now : Tick) → (io : IoState) → map_read proc now (map_seen proc self.now io) at width
             ≡ map_seen proc self.now io) }
         ensures waits { IfSome result (λ given. (wramcnt : ℕ) → given.waits ≡ wait_at proc wramcnt at width) }

@@ -18,7 +18,7 @@ ghost use Rattle.ds_machine.specs.States.{with_file, MachineState};
 ghost use Rattle.ds_machine.specs.Statuses.{HasBothStatuses};
 ghost use Rattle.ds_machine.specs.StepAnswers.{done_of, Steps};
 ghost use Rattle.ds_machine.specs.Steps.{processor_of, tick_of};
-ghost use Rattle.ds_machine.specs.TurnSteps.{due_or_never, BelongsToTurn, HasEnds, HasLimit, IsEnd, MayAct, MayStep, TakesSteps};
+ghost use Rattle.ds_machine.specs.TurnSteps.{due_or_never, BelongsToTurn, HasEnds, HasLimit, IsTurnEnd, MayAct, MayStep, TakesSteps};
 ghost use Rattle.gx_fifo.specs.GxStates.{IsGx};
 
 use crate::heads::Head;
@@ -166,11 +166,11 @@ impl Loaded {
         requires running { IsRunning last_limit self.old }
         requires early { until.0 ≤ 2 ^ 56 }
         requires limit { HasLimit until.0 self.old proc limit }
-        requires end { 0 < end → IsEnd until.0 self.old end }
+        requires end { 0 < end → IsTurnEnd until.0 self.old end }
         ensures steps { TakesSteps until.0 proc self.old self.new }
         ensures over { result ≡ true → BelongsToTurn until.0 self.new proc → ⊥ }
         ensures limit { HasLimit until.0 self.new proc limit }
-        ensures end { 0 < end → IsEnd until.0 self.new end }
+        ensures end { 0 < end → IsTurnEnd until.0 self.new end }
         ensures other { due_or_never self.new (other_proc proc) ≡ due_or_never self.old (other_proc proc) }
     {
         self.machine.go_fast(proc, until, end, limit)

@@ -4,7 +4,7 @@ use Rattle.ds_ipc.specs.Ipcs.{other_proc}
 use Rattle.ds_machine.specs.Counting.{RunsWithSome}
 use Rattle.ds_machine.specs.NextEvents.{IsNextEvent}
 use Rattle.ds_machine.specs.States.{MachineState}
-use Rattle.ds_machine.specs.TurnSteps.{BelongsToTurn, HasLimit, IsEnd, TakesSteps, due_or_never, no_steps}
+use Rattle.ds_machine.specs.TurnSteps.{BelongsToTurn, HasLimit, IsTurnEnd, TakesSteps, due_or_never, no_steps}
 use Rattle.ds_machine.specs.declared.next_events.NextEvent.{NextEvent}
 use Rattle.ds_machine.proofs.EndTicks.{other_never}
 use Rattle.ds_machine.proofs.FastTurns.{goes_first, goes_on, goes_same}
@@ -25,7 +25,7 @@ steps-init c = (
   goes_first c.args.until.0 c.args.proc c.self.inside.next_event c.args.end c.args.limit c.self.inside.parts (record {
     kept = c.self.invariant.0;
     down = sym c.line.ensures ∙ c.if-line.false;
-    events = subst (λ (m : MachineState). 0 < c.args.end → IsEnd c.args.until.0 m c.args.end) (sym c.self.view_is) c.requires.end;
+    events = subst (λ (m : MachineState). 0 < c.args.end → IsTurnEnd c.args.until.0 m c.args.end) (sym c.self.view_is) c.requires.end;
     least = subst (λ (m : MachineState). HasLimit c.args.until.0 m c.args.proc c.args.limit) (sym c.self.view_is) c.requires.limit;
     running = subst RunsWithSome (sym c.self.view_is) c.requires.running;
   }),

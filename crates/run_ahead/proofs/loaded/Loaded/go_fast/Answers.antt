@@ -2,7 +2,7 @@ use Rattle.std.proofs.Common.{sym, ◌∙◌, ap, subst}
 use Rattle.ds_ipc.specs.Ipcs.{other_proc}
 use Rattle.ds_machine.specs.Counting.{IsRunning, last_limit}
 use Rattle.ds_machine.specs.States.{MachineState, with_file}
-use Rattle.ds_machine.specs.TurnSteps.{HasLimit, IsEnd, TakesSteps, due_or_never}
+use Rattle.ds_machine.specs.TurnSteps.{HasLimit, IsTurnEnd, TakesSteps, due_or_never}
 use Rattle.ds_machine.proofs.Files.{belongs_put, end_put, limit_put, never_put, turn_put}
 use Rattle.run_ahead.proofs.loaded.Loaded.go_fast.Goals as goal
 
@@ -20,7 +20,7 @@ pub go_fast-requires-clause-end : goal.go_fast-requires-clause-end
 go_fast-requires-clause-end c = λ some.
     (let until = c.args.until.0 in
     let s = c.self.inside.machine in
-    end_put s.file until (with_file c.self.inside.cart s) c.args.end (subst (λ (m : MachineState). IsEnd until m c.args.end) (sym c.self.view_is) (c.requires.end some)))
+    end_put s.file until (with_file c.self.inside.cart s) c.args.end (subst (λ (m : MachineState). IsTurnEnd until m c.args.end) (sym c.self.view_is) (c.requires.end some)))
 
 pub returns : goal.returns
 returns c =

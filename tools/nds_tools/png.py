@@ -1,4 +1,5 @@
 """Pictures: PNG files of screens, whose channels of five bits are widened to eight."""
+import functools
 import os
 import struct
 import zlib
@@ -7,7 +8,6 @@ from typing import Callable, List, Optional
 import sys
 
 WIDTH, HEIGHT = 256, 192
-_colours: List[bytes] = []
 
 
 def widened(channel: int) -> int:
@@ -15,12 +15,11 @@ def widened(channel: int) -> int:
     return (channel << 3) + (channel >> 2)
 
 
+@functools.lru_cache(maxsize=None)
 def colours() -> List[bytes]:
-    """Returns red, green and blue of each pixel value without its bit 15, made at the first use."""
-    if not _colours:
-        wide = [widened(it) for it in range(32)]
-        _colours.extend(bytes((wide[it & 31], wide[it >> 5 & 31], wide[it >> 10])) for it in range(0x8000))
-    return _colours
+    """Returns red, green and blue of each pixel value without its bit 15, made at the first use, and whole for whoever asks meanwhile."""
+    wide = [widened(it) for it in range(32)]
+    return [bytes((wide[it & 31], wide[it >> 5 & 31], wide[it >> 10])) for it in range(0x8000)]
 
 
 def pixels_of(content: bytes) -> array:

@@ -27,13 +27,15 @@ enum Line {
     HalfMoves(u32, u16, u32),
     /// The same of a half.
     HalfBranches(u32, u16, u32),
-    /// BX or a half of BL, which both do, and its register or its offset.
-    HalfCalls(u32, u16, u32),
+    /// The same of a half; and both halves of BL, which both do, and their offsets.
+    HalfExchanges(u32, u16, u32),
+    Prefixes(u32, u16, u32),
+    Suffixes(u32, u16, u32),
 }
 
 use Line::{
-    Branches, Exchanges, HalfBranches, HalfCalls, HalfMoves, Moves, NoHalf, NoWord, Other,
-    PlainHalf, PlainWord,
+    Branches, Exchanges, HalfBranches, HalfExchanges, HalfMoves, Moves, NoHalf, NoWord, Other,
+    PlainHalf, PlainWord, Prefixes, Suffixes,
 };
 
 /// Whether it moves a value to r0 under a condition.
@@ -53,11 +55,26 @@ fn branches(operation: &Operation, wanted: u32) -> bool {
     }
 }
 
-/// Whether it is BX of a register, or a half of BL with an offset.
-fn calls(operation: &Operation, wanted: u32) -> bool {
+/// Whether it is BX of a register.
+fn exchanges(operation: &Operation, wanted: u32) -> bool {
     match operation.op {
         Op::Exchange { rm } => rm as u32 == wanted,
-        Op::LinkPrefix { offset } | Op::LinkSuffix { offset } => offset as u32 == wanted,
+        _ => false,
+    }
+}
+
+/// Whether it is the first half of BL with an offset.
+fn is_prefix(operation: &Operation, wanted: u32) -> bool {
+    match operation.op {
+        Op::LinkPrefix { offset } => offset as u32 == wanted,
+        _ => false,
+    }
+}
+
+/// Whether it is the second.
+fn is_suffix(operation: &Operation, wanted: u32) -> bool {
+    match operation.op {
+        Op::LinkSuffix { offset } => offset as u32 == wanted,
         _ => false,
     }
 }
@@ -74,12 +91,20 @@ fn is_right(five: &mut Decoder<5>, four: &mut Decoder<4>, line: Line) -> bool {
             of_five && matches!(four.arm_operation(at, word).op, Op::Plain(_))
         }
         Exchanges(at, word, rm) => {
-            let of_five = calls(five.arm_operation(at, word), rm);
-            of_five && calls(four.arm_operation(at, word), rm)
+            let of_five = exchanges(five.arm_operation(at, word), rm);
+            of_five && exchanges(four.arm_operation(at, word), rm)
         }
-        HalfCalls(at, half, field) => {
-            let of_five = calls(five.thumb_operation(at, half), field);
-            of_five && calls(four.thumb_operation(at, half), field)
+        HalfExchanges(at, half, rm) => {
+            let of_five = exchanges(five.thumb_operation(at, half), rm);
+            of_five && exchanges(four.thumb_operation(at, half), rm)
+        }
+        Prefixes(at, half, offset) => {
+            let of_five = is_prefix(five.thumb_operation(at, half), offset);
+            of_five && is_prefix(four.thumb_operation(at, half), offset)
+        }
+        Suffixes(at, half, offset) => {
+            let of_five = is_suffix(five.thumb_operation(at, half), offset);
+            of_five && is_suffix(four.thumb_operation(at, half), offset)
         }
         NoHalf(at, half) => {
             let of_five = matches!(five.thumb_operation(at, half).op, Op::Other);
@@ -119,7 +144,7 @@ fn each_word_is_decoded_whatever_was_kept(rt: HostRuntime) -> Result<(), AllocEr
         HalfMoves(0x300_0002, 0x2001, 1), HalfBranches(0x300_0002, 0xE7FE, 0xFFFF_FFFC),
         HalfMoves(0x300_0000, 0x2001, 1), HalfBranches(0x300_0000, 0xE7FE, 0xFFFF_FFFC),
         // bx and the halves of bl by their fields, and an address of r15 as it is, by both
-        Exchanges(0x200_0000, 0xE12F_FF11, 1), HalfCalls(0x300_0000, 0x4708, 1), HalfCalls(0x300_0002, 0xF001, 1), HalfCalls(0x300_0004, 0xF802, 2),
+        Exchanges(0x200_0000, 0xE12F_FF11, 1), HalfExchanges(0x300_0000, 0x4708, 1), Prefixes(0x300_0002, 0xF001, 1), Suffixes(0x300_0004, 0xF802, 2),
         PlainHalf(0x300_0006, 0xA001), PlainWord(0x200_0004, 0xE081_0392), PlainWord(0x200_0008, 0xE131_0002),
         // blx, bkpt, clz, qadd, smlabb, smulwb, ldrd, strd, mcr, blx to a target and pld are ARMv5's; none is an operation
         NoWord(0x200_0000, 0xE12F_FF31), NoWord(0x200_0000, 0xE120_0070), NoWord(0x200_0000, 0xE16F_0F11), NoWord(0x200_0000, 0xE101_0052),

@@ -67,3 +67,10 @@ int __wrap_swiIsDebugger(void)
 {
     return 0;
 }
+
+/* ARM7's 08h, which moves the sound's bias level: sound is silent here. */
+void __wrap_swiChangeSoundBias(int enabled, int delay)
+{
+    (void)enabled;
+    (void)delay;
+}

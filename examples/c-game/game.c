@@ -1,8 +1,10 @@
 /* ARM9: a square that the arrows move and that takes coins; X makes it run. Each result that a test looks at has a name of its own. */
 #include "ports.h"
 
-#define FLAGS (*(volatile u32 *)0x3003FF8)
-#define HANDLER ((volatile u32 *)0x3003FFC)
+/* DTCM lies where the linker script says. Its last words are the boot ROM's: the flags of interrupts that came, and the handler. */
+extern volatile u32 __dtcm_start[0x1000];
+#define FLAGS __dtcm_start[0xFFE]
+#define HANDLER (&__dtcm_start[0xFFF])
 
 #define POWCNT1 PORT16(0x4000304)
 #define DISPCNT_A PORT32(0x4000000)

@@ -11,13 +11,32 @@
         .equ    PALETTE, 0x5000000
         .equ    OBJECTS, 0x7000000
         .equ    GEOMETRY, 0x4000400     @ FIFO; the command n has its port 4n above
-        .equ    FLAGS,   0x3003ff8      @ where the boot ROM looks for flags; the handler's pointer follows
+        .equ    DTCM,    0xb000000      @ where this program puts it: at boot it is elsewhere on a console and in other emulators
+        .equ    FLAGS,   DTCM + 0x3ff8  @ where the boot ROM looks for flags; the handler's pointer follows
         .equ    KEYS_X,  0x030          @ RIGHT and LEFT
         .equ    KEYS_LR, 0x300          @ R and L
 
 _start:
-        bic     sp, sp, #7
         mov     r8, #PORTS
+        str     r8, [r8, #0x208]        @ IME: bit 0 is clear, so no interrupt comes
+        ldr     r0, =0x00002078         @ CP15's control: ITCM, DTCM, caches and protection unit are off, vectors are high
+        mcr     p15, 0, r0, c1, c0, 0
+        mov     r0, #0
+        mcr     p15, 0, r0, c7, c5, 0   @ what the caches hold is dropped,
+        mcr     p15, 0, r0, c7, c6, 0
+        mcr     p15, 0, r0, c7, c10, 4  @ and the write buffer goes to memory
+        ldr     r0, =DTCM + 0xa         @ DTCM has 16 KiB,
+        mcr     p15, 0, r0, c9, c1, 0
+        mov     r0, #0x20               @ and ITCM goes from 0 to 1FFFFFFh
+        mcr     p15, 0, r0, c9, c1, 1
+        ldr     r0, =0x00052078         @ both are on
+        mcr     p15, 0, r0, c1, c0, 0
+        msr     cpsr_c, #0xd2           @ stacks of IRQ mode, of Supervisor mode and of System mode
+        ldr     sp, =DTCM + 0x3fa0
+        msr     cpsr_c, #0xd3
+        ldr     sp, =DTCM + 0x3fc0
+        msr     cpsr_c, #0xdf
+        ldr     sp, =DTCM + 0x3e00
         ldr     r9, =OBJECTS
         ldr     r10, =results
         bl      screens

@@ -1,11 +1,23 @@
 """What differs between the results that are kept of a test and those of a run: values first, then frames, as ranges."""
+import re
 from dataclasses import dataclass, field
-from typing import Dict, List
+from typing import Callable, Dict, List
 
 from nds_tools.game_tests import Results
 from nds_tools.spans import joined
 
 SHOWN = 4
+KEY = re.compile(r"(?P<when>at frame \d+ )?(?P<kind>text|peek|decimal) (?P<name>.*)")
+# A number as it is kept in hexadecimal digits: of a word, a half or a byte.
+WORD = re.compile(r"[0-9a-f]{8}|[0-9a-f]{4}|[0-9a-f]{2}")
+# Given a place with its bytes before and now, tells the first field that changed; nothing where no field is known.
+Fields = Callable[[str, bytes, bytes], str]
+
+
+def no_fields(name: str, before: bytes, now: bytes) -> str:
+    return ""
+
+
 # Results of which a run may have more or fewer, whatever the test's lines are.
 COUNTED = ("vertex", "polygon")
 
@@ -56,23 +68,31 @@ def short(lines: List[str]) -> str:
     return "; ".join(lines[:SHOWN]) + (f"; and {more} more, which --all tells" if more > 0 else "")
 
 
-def value_change(key: str, before: str, now: str) -> str:
-    """Tells of one result that changed: for words the first one that differs, and how many do."""
-    kind, _, name = key.partition(" ")
-    if kind == "text":
-        return f"{name} was {before}, is {now}"
-    if kind not in ("peek", "decimal"):
+def value_change(key: str, before: str, now: str, fields: Fields = no_fields) -> str:
+    """Tells of one result that changed: for words the first one that differs, and how many do; by its field's name where that is known."""
+    form = KEY.fullmatch(key)
+    if not form:
         return f"{key} was {before}, is {now}"
+    when, kind, name = form["when"] or "", form["kind"], form["name"]
+    if kind == "text":
+        return f"{when}{name} was {before}, is {now}"
     one, two = before.split(), now.split()
     if len(one) != len(two):
-        return f"{name} was {len(one)} numbers, is {len(two)}"
+        return f"{when}{name} was {len(one)} numbers, is {len(two)}"
     differ = [at for at, (a, b) in enumerate(zip(one, two)) if a != b]
     at = differ[0]
-    if kind == "decimal":
-        place = f"{name}{f' number {at + 1}' if len(one) > 1 else ''}"
-    else:
-        place = f"{name}{f' +0x{at * len(one[at]) // 2:x}' if at else ''}"
-    return f"{place} was {one[at]}, is {two[at]}{f', and {len(differ) - 1} more of it' if len(differ) > 1 else ''}"
+    more = f", and {len(differ) - 1} more of it" if len(differ) > 1 else ""
+    if kind == "decimal" or not all(WORD.fullmatch(it) for it in one + two):
+        return f"{when}{name}{f' number {at + 1}' if len(one) > 1 else ''} was {one[at]}, is {two[at]}{more}"
+    named = fields(name, bytes_of_words(one), bytes_of_words(two))
+    if named:
+        return f"{when}{named}{more}"
+    return f"{when}{name}{f' +0x{at * len(one[at]) // 2:x}' if at else ''} was {one[at]}, is {two[at]}{more}"
+
+
+def bytes_of_words(words: List[str]) -> bytes:
+    """Returns the bytes of numbers as they are kept, in hexadecimal digits."""
+    return b"".join(int(it, 16).to_bytes(len(it) // 2, "little") for it in words)
 
 
 def counted_change(kind: str, changed: List[str], kept: Results, now: Results) -> str:
@@ -82,7 +102,7 @@ def counted_change(kind: str, changed: List[str], kept: Results, now: Results) -
     return told + (f", and {len(changed) - 1} {'vertices' if kind == 'vertex' else 'polygons'} more" if len(changed) > 1 else "")
 
 
-def changes(kept: Results, now: Results) -> Changes:
+def changes(kept: Results, now: Results, fields: Fields = no_fields) -> Changes:
     """Compares the results that are kept with those of a run."""
     found = Changes()
     counted: Dict[str, List[str]] = {it: [] for it in COUNTED}
@@ -99,6 +119,6 @@ def changes(kept: Results, now: Results) -> Changes:
         elif kind == "frame":
             found.frames.append(key)
         else:
-            found.values.append(value_change(key, kept[key], now[key]))
+            found.values.append(value_change(key, kept[key], now[key], fields))
     found.values += [counted_change(kind, keys, kept, now) for kind, keys in counted.items() if keys]
     return found

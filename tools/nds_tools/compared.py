@@ -3,12 +3,13 @@ from dataclasses import dataclass, field
 from functools import cached_property
 from typing import Dict, Iterator, List, Optional, Tuple
 
-from nds_tools import names
+from nds_tools import meanings, names
+from nds_tools.builds import is_in_memory
 from nds_tools.memory import Map
 from nds_tools.records import Memory
 from nds_tools.words import Untold
 
-SHOWN, SHOWN_VARIABLES = 3, 40
+SHOWN, SHOWN_VARIABLES, SHOWN_BY_MEANING = 3, 40, 12
 BLOCK = 4_096
 # Where main memory has the header's copy, which tells how long the images are.
 HEADER = ("main", 0x3F_FE00, 0x3F_FF70)
@@ -58,11 +59,7 @@ class Side:
     def runs(self, proc: int) -> bool:
         """Whether the code of a processor's ELF file stands in memory, so that the file may be that of the program that ran."""
         elf = self.known.elves[proc]
-        for address, content in elf.code_bytes() if elf else []:
-            place = range_of(self.known, proc, address, len(content))
-            if place and self.record.memories[place[0]][place[1] : place[2]] != content[: place[2] - place[1]]:
-                return False
-        return True
+        return elf is None or is_in_memory(elf, proc, self.known, self.record)
 
     def word(self, memory: str, at: int) -> int:
         return int.from_bytes(self.record.memories[memory][at : at + 4], "little")
@@ -96,10 +93,15 @@ def code_ranges(known: Map) -> List[Range]:
     return [it for it in found if it] + [HEADER]
 
 
-def value_line(name: str, one: bytes, two: bytes) -> str:
-    """Tells of a variable that differs its value, or of a long one the first word that differs and how many more do."""
+def value_line(name: str, one: bytes, two: bytes, known: Optional[Map] = None) -> str:
+    """Tells of a variable that differs its value, or of a long one the first word that differs and how many more do; where types are known the
+    first field, by its name."""
     if len(one) != len(two):
         return f"{name}: {len(one)} bytes and {len(two)} bytes"
+    field = known.field_change(name, one, two) if known and " (" not in name else ""
+    if field:
+        places = sum(one[at : at + 4] != two[at : at + 4] for at in range(0, len(one), 4))
+        return field.replace(" was ", ": ").replace(", is ", " and ") + (f", and more in {places - 1} words of it" if places > 1 else "")
     width = 4 if len(one) % 4 == 0 else 2 if len(one) % 2 == 0 else 1
     differ = [at for at in range(0, len(one), width) if one[at : at + width] != two[at : at + width]]
     values = " and ".join(f"{int.from_bytes(it[differ[0] : differ[0] + width], 'little'):0{2 * width}x}" for it in (one, two))
@@ -127,7 +129,7 @@ def compare_variables(a: Side, b: Side, skips_code: bool) -> Part:
         differs = contents[0] != contents[1]
         points = differs and points_alone(a, b, one, two)
         pointers += points
-        part.add(differs and not points, value_line(name, *contents) if differs and not points else "")
+        part.add(differs and not points, value_line(name, *contents, a.known) if differs and not points else "")
     if part.count > len(part.lines):
         part.lines.append(f"and {part.count - len(part.lines)} more")
     if pointers and not skips_code:
@@ -167,7 +169,10 @@ def compare_memory(a: Side, b: Side, skips_code: bool) -> List[Part]:
                 pointers += 1
                 continue
             part.count += 1
-            if len(part.lines) < SHOWN:
+            if name in ("oam", "palette"):
+                told = meanings.changes(name, at, a.record.memories[name], b.record.memories[name])
+                part.lines += [it for it in told if it not in part.lines][: max(SHOWN_BY_MEANING - len(part.lines), 0)]
+            elif len(part.lines) < SHOWN:
                 part.lines.append(f"{a.known.show(name, at)}: {one:08x} and {two:08x}")
         if pointers and not skips_code:
             part.count += pointers

@@ -31,14 +31,19 @@ class Term:
     value: Optional[Value]
     other: Optional[Place]
 
-    @property
-    def is_signed(self) -> bool:
-        return isinstance(self.value, int) and self.value < 0
+    def is_signed(self, place: Place) -> bool:
+        """Whether a place's number is read with a sign: where it is compared with a number below 0, or asked whether it is below 0, and where it
+        has one, unless it is compared with a number that no such number is."""
+        if not isinstance(self.value, int):
+            return place.is_signed
+        if self.value == 0 and self.how in ("<", ">="):
+            return True
+        return self.value < 0 or (place.is_signed and self.value < 1 << 8 * place.count - 1)
 
     def read(self, place: Place, record: Memory) -> Value:
         """Returns what a place holds: a number as the comparison wants it, or a text."""
         content = place.bytes_in(record)
-        return text_in(content) if isinstance(self.value, str) else int.from_bytes(content, "little", signed=self.is_signed)
+        return text_in(content) if isinstance(self.value, str) else int.from_bytes(content, "little", signed=self.is_signed(place))
 
     def holds(self, record: Memory) -> bool:
         wanted = self.read(self.other, record) if self.other else self.value
@@ -46,8 +51,14 @@ class Term:
 
     def shown(self, record: Memory) -> str:
         """Returns the places of the comparison with what they hold."""
-        told = [(it.name, self.read(it, record)) for it in (self.place, self.other) if it]
-        return ", ".join(f"{name} {json.dumps(it, ensure_ascii=False) if isinstance(it, str) else it}" for name, it in told)
+        told = [(it, self.read(it, record)) for it in (self.place, self.other) if it]
+        return ", ".join(f"{place.name} {self.written(place, it)}" for place, it in told)
+
+    def written(self, place: Place, value: Value) -> str:
+        """Writes what a place holds: a text in quotation marks, an enum's value by name, otherwise a number."""
+        if isinstance(value, str):
+            return json.dumps(value, ensure_ascii=False)
+        return dict(place.number.names).get(value, str(value)) if place.number else str(value)
 
 
 @dataclass(frozen=True)
@@ -66,8 +77,12 @@ class Condition:
 
 def one_number(place: Place) -> Place:
     """Returns a place of one number: a byte, a half or a word."""
-    if place.count not in (1, 2, 4):
-        raise Untold(f"{place.name} is {place.count} bytes, and a comparison wants one word: give {place.name}:1, or its place as {place.name}+4:1")
+    if place.number and place.number.is_real:
+        raise Untold(f"{place.name} is a floating-point number, which conditions don't compare")
+    if place.count != place.width or place.count not in ((1, 2, 4, 8) if place.number else (1, 2, 4)):
+        bare = place.name.rpartition(":")[0] if re.search(r"[^97]:\w+$", place.name) else place.name
+        give = f"give {bare}:1, or its place as {bare}+4:1, {bare}+2:s16"
+        raise Untold(f"{place.name} is {place.count} bytes, and a comparison wants one number: {give}")
     return place
 
 
@@ -83,6 +98,9 @@ def term(form: "re.Match[str]", known: Map) -> Term:
             raise Untold(f"{text} is no text") from None
     place = one_number(known.find(name))
     if not NUMBER.fullmatch(text):
+        named = {name: value for value, name in place.number.names} if place.number else {}
+        if text in named:
+            return Term(place, how, named[text], None)
         return Term(place, how, None, one_number(known.find(text)))
     try:
         return Term(place, how, number(text), None)

@@ -15,8 +15,9 @@
   --dtcm A     where the program put DTCM; left out, as ARM9's ELF file has it, otherwise 0x3000000
 
 Variables that differ come by name, with their values or the first word that differs. For each other part it tells how much differs and the
-first three places: of a frame the screen, how many pixels, the first one's (x, y) and both colours; of a memory the address, the symbol and
-both words, without the variables and the pointers into code. All registers and counts that differ are told, and a stop by its name. Of states
+first three places: of a frame the screen, how many pixels, the least box that holds them, the first one's (x, y) and both colours, and whether
+it is A's picture moved; of a memory the address, the symbol and both words, without the variables and the pointers into code; of object memory
+and the palettes what they say, as `object 0: x 40 and 41`. All registers and counts that differ are told, and a stop by its name. Of states
 the fields come by name, as ports of GBATEK's names, with both values and both offsets; DTCM is where each state has it.
 
 Where the code in an output's memory isn't its ELF file's, standard error says so: then its variables lie elsewhere.
@@ -27,8 +28,9 @@ import sys
 from dataclasses import dataclass
 from typing import Iterator, List, Optional, Tuple, Union
 
-from nds_tools import names, png
+from nds_tools import golden, names, png
 from nds_tools.compared import SHOWN, Part, Side, compare_memory, compare_variables
+from nds_tools.meanings import colour
 from nds_tools.memory import Map
 from nds_tools.records import SCREEN, End, Frame, Lists, Memory, Record, Stop, records_of
 from nds_tools.show_command import map_of
@@ -90,11 +92,6 @@ def pixels(a: bytes, b: bytes) -> List[int]:
     return [] if a == b else [at for at, (x, y) in enumerate(zip(png.pixels_of(a), png.pixels_of(b))) if x != y]
 
 
-def colour(value: int) -> str:
-    """Writes a pixel: its number, and red, green and blue of 0 to 31."""
-    return f"{value:04x} (red {value & 31}, green {value >> 5 & 31}, blue {value >> 10 & 31})"
-
-
 def frame_line(a: Frame, b: Frame) -> str:
     """Tells of a frame that differs the screens, and each one's first pixel."""
     told = []
@@ -104,8 +101,12 @@ def frame_line(a: Frame, b: Frame) -> str:
         if found:
             first = found[0]
             both = " and ".join(colour(int.from_bytes(it[2 * first : 2 * first + 2], "little")) for it in (one, two))
-            told.append(f"{name} screen, {len(found)} pixels, first ({first % png.WIDTH}, {first // png.WIDTH}): {both}")
-    return f"frame {a.number}: {'; '.join(told)}"
+            how_many = "1 pixel" if len(found) == 1 else f"{len(found)} pixels"
+            rows, columns = [it // png.WIDTH for it in found], [it % png.WIDTH for it in found]
+            box = f" in the box ({min(columns)}, {min(rows)}) to ({max(columns)}, {max(rows)})" if len(found) > 1 else ""
+            told.append(f"{name} screen, {how_many}{box}, first ({first % png.WIDTH}, {first // png.WIDTH}): {both}")
+    way = golden.moved(a.pixels, b.pixels)
+    return f"frame {a.number}: {'; '.join(told)}{f'; {way}' if way else ''}"
 
 
 def picture(folder: str, a: Frame, b: Frame) -> str:

@@ -1,9 +1,14 @@
 """ELF files for ARM, as linkers write them: segments by load address, symbols, where code lies, and where DTCM does."""
 import struct
+import zlib
 from bisect import bisect_right
-from dataclasses import dataclass
+from dataclasses import dataclass, replace
+from functools import cached_property
 from typing import Dict, List, NamedTuple, Optional, Tuple
 
+from nds_tools import dwarf
+from nds_tools.dwarf_lines import Lines
+from nds_tools.dwarf_types import Number, Part, Step, Types
 from nds_tools.words import Untold, bytes_of
 
 MAGIC = b"\x7fELF"
@@ -13,6 +18,8 @@ SYMBOL_TABLE, NO_BYTES = 2, 8
 OBJECT, FUNCTION, SECTION, FILE = 1, 2, 3, 4
 CONSTANT = 0xFFF1
 DTCM_BYTES = 0x4000
+# What reading debugging information may come to that is cut, or of a form that isn't known.
+UNREAD = (dwarf.BadDwarf, ArithmeticError, IndexError, KeyError, ValueError, RecursionError, zlib.error)
 OTHER_TYPES = {0: "an ELF file of no type", 1: "an object file, which isn't linked yet", 3: "a shared object", 4: "a core file"}
 OTHER_MACHINES = {3: "x86", 8: "MIPS", 20: "PowerPC", 62: "x86-64", 183: "AArch64", 243: "RISC-V"}
 
@@ -58,6 +65,14 @@ class Symbol:
     @property
     def is_variable(self) -> bool:
         return self.kind == OBJECT and self.size > 0 and not self.is_constant
+
+
+class Field(NamedTuple):
+    """A variable, or a field or element of one: its name with what leads there, where it begins, and how it is a number, where it is one."""
+
+    name: str
+    address: int
+    number: Optional[Number]
 
 
 class Elf:
@@ -154,6 +169,68 @@ class Elf:
                 end = section.address + section.size
         return min(end, next_at) if next_at else end
 
+    @cached_property
+    def debug(self) -> dwarf.Sections:
+        """The sections of debugging information, of which a program built without -g has none."""
+        found = dwarf.Sections()
+        for it in self.sections:
+            name = self.section_name(it)
+            if name.startswith(".debug_") and it.kind != NO_BYTES:
+                found[name] = dwarf.unpacked(self.content[it.offset : it.offset + it.size], it.flags)
+        return found
+
+    @cached_property
+    def lines(self) -> Optional[Lines]:
+        """Lines of source; None where they aren't told, or otherwise than they are read here."""
+        parts = [(address, address + size) for address, size in self.code_parts()]
+        try:
+            return Lines(self.debug, lambda at: any(first <= at < end for first, end in parts))
+        except UNREAD:
+            return None
+
+    @cached_property
+    def types(self) -> Optional[Types]:
+        """Types of variables; None where they aren't told, or otherwise than they are read here."""
+        try:
+            found = Types(self.debug)
+            return found if found.variables else None
+        except UNREAD:
+            return None
+
+    def line_of(self, address: int) -> str:
+        """Returns an address's file and line of source, or nothing where they aren't told."""
+        row = self.lines.at(address) if self.lines else None
+        return f"{row.file}:{row.line}" if row else ""
+
+    def field_at(self, address: int) -> Optional[Field]:
+        """Returns the field of a variable that a byte belongs to; None where no type is told."""
+        owner = self.owner(address)
+        if owner is None or owner.kind == FUNCTION or self.types is None:
+            return None
+        try:
+            part = self.types.field_at(owner.address, address - owner.address)
+        except UNREAD:
+            return None
+        return Field(f"{owner.name}{part.path}", owner.address + part.offset, part.number) if part and part.kind else None
+
+    def part_of(self, symbol: Symbol, steps: List[Step], text: str) -> Optional[Part]:
+        """Returns the part of a variable to which fields and elements lead; None where there are none and its type isn't told."""
+        if self.types is None:
+            if steps:
+                raise Untold(f"{text}: {self.name} doesn't tell the fields of {symbol.name}; build with -g")
+            return None
+        try:
+            return self.types.found(symbol.address, steps, text) if steps or self.types.variable(symbol.address) else None
+        except UNREAD:
+            raise Untold(f"{text}: the types in {self.name} can't be read") from None
+
+    def fields_of(self, part: Part) -> List[Part]:
+        """Returns the fields of a structure, with what leads to each and its place in the structure; none where it is none."""
+        try:
+            return self.types.fields_of(replace(part, offset=0, path="")) if self.types else []
+        except UNREAD:
+            return []
+
     def find(self, name: str) -> Optional[Symbol]:
         """Returns the symbol of a name; a global one goes before local ones, of which there may be one alone."""
         found = [it for it in self.symbols if it.name == name]
@@ -170,11 +247,18 @@ class Elf:
         return max(having, key=lambda it: (bool(it.size), it.address, not it.is_local, it.kind in (OBJECT, FUNCTION)), default=None)
 
     def near(self, address: int) -> str:
-        """Returns `symbol` or `symbol+0xN` for the symbol that an address belongs to, or nothing."""
+        """Returns `symbol` or `symbol+0xN` for the symbol that an address belongs to, or nothing; where the file tells more, `file.c:12 in symbol` of
+        code behind the symbol, and the field of a variable that begins there."""
         if address not in self.found:
             best = self.owner(address)
+            line = self.line_of(address) if best and best.kind != OBJECT else ""
+            field = self.field_at(address) if best and best.kind == OBJECT else None
             more = f"+0x{address - best.address:x}" if best and best.address != address else ""
             self.found[address] = f"{best.name}{more}" if best else ""
+            if line and best and best.address != address:
+                self.found[address] = f"{line} in {best.name}"
+            elif field and best and field.address == address != best.address:
+                self.found[address] = field.name
         return self.found[address]
 
     def variables(self) -> List[Symbol]:

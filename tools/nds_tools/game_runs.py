@@ -2,15 +2,21 @@
 import hashlib
 import io
 import threading
+from collections import deque
+from contextlib import closing
 from dataclasses import dataclass, field
-from typing import Dict, List, Optional, Tuple
+from typing import Deque, Dict, List, Optional, Sequence, Tuple
 
 from nds_tools import names
-from nds_tools.memory import Map, Place, shown, text_in
+from nds_tools.builds import others
+from nds_tools.conditions import Condition
+from nds_tools.looks import Game, Look, Looker
+from nds_tools.loops import seen_behind
+from nds_tools.memory import Map, Place, shown, text_in, width_of
 from nds_tools.game_states import explained as explained_state
 from nds_tools.program import BAD_STATE, DONE, LEFT_OUT, finished, said, output_of, start
 from nds_tools.records import End, Frame, Lists, Memory, Reader, Stop
-from nds_tools.game_tests import Asked, Results, Shot, Test, as_text, sum_of
+from nds_tools.game_tests import Asked, Expected, Results, Shot, Test, as_text, sum_of
 from nds_tools.scripts import explained
 from nds_tools.stuck import stuck
 from nds_tools.words import Untold
@@ -25,21 +31,37 @@ class Ran:
 
     results: Results = field(default_factory=dict)
     frames: Dict[Shot, bytes] = field(default_factory=dict)
+    unmet: List[str] = field(default_factory=list)
     stopped: str = ""
     missed: str = ""
     stuck: str = ""
+    last: Sequence[Frame] = ()
+
+
+@dataclass(frozen=True)
+class Hold:
+    """Which frames of a run are held: of how many that differ, of how many that are kept, and how many of the last ones, whatever they are."""
+
+    differing: int = MOST_HELD
+    kept: int = 0
+    last: int = 0
 
 
 @dataclass(frozen=True)
 class Playing:
-    """A test with the program that runs it, its key script's file, and what is kept of it."""
+    """A test with the program that runs it, its key script's file, what is kept of it, and which frames are held."""
 
     test: Test
     program: str
     timeout: float
     keys: str
     kept: Results
-    most_held: int = MOST_HELD
+    hold: "Hold"
+
+    @property
+    def game(self) -> Game:
+        state = self.test.start.state if self.test.start else None
+        return Game(self.program, self.test.cart, self.keys, self.test.keys, self.timeout, state)
 
     def words(self, ticks: int, keep: str) -> Tuple[str, ...]:
         return self.test.words(self.keys, ticks, keep)
@@ -70,22 +92,28 @@ class Seen:
     sums: Dict[Shot, str] = field(default_factory=dict)
     sum: str = ""
     differ: int = 0
+    last: Deque[Frame] = field(default_factory=deque)
 
     def take_frame(self, frame: Frame, playing: Playing) -> None:
         """Sums what the test keeps of a frame; holds its pixels where a picture of it is kept, and of the first that differ."""
+        if playing.hold.last:
+            self.last.append(frame)
+            while len(self.last) > playing.hold.last:
+                self.last.popleft()
         for shot in [it for it in playing.test.shots if it.number == frame.number] if frame.number in playing.test.frames else []:
             pixels = shot.pixels_of(frame)
             self.sums[shot] = sum_of(pixels)
             differs = playing.kept.get(shot.key, self.sums[shot]) != self.sums[shot]
             self.differ += differs
-            if playing.test.shots[shot] or (differs and self.differ <= playing.most_held):
+            is_held = len(self.frames) < playing.hold.kept or (differs and self.differ <= playing.hold.differing)
+            if playing.test.shots[shot] or is_held:
                 self.frames[shot] = pixels
 
 
 def seen(playing: Playing) -> Seen:
     """Runs the test's cartridge, and returns what it looks at. A run that takes too long or is refused can't be judged."""
     test = playing.test
-    run = start(playing.program, *playing.words(test.ticks, test.keep))
+    run = start(playing.program, *playing.words(test.ticks, "all" if playing.hold.last else test.keep))
     found, late = Seen(), threading.Event()
     watch = threading.Timer(playing.timeout, lambda: (late.set(), run.kill()))
     watch.start()
@@ -138,18 +166,22 @@ def read_into(found: Seen, playing: Playing, reader: Reader) -> Optional[Untold]
     return None
 
 
-def ran(test: Test, program: str, timeout: float, kept: Optional[Results], most_held: int = MOST_HELD) -> Ran:
+def ran(test: Test, program: str, timeout: float, kept: Optional[Results], hold: Hold = Hold()) -> Ran:
     """Runs a test and returns its results, or how its end isn't the one that is expected. Where it differs from what is kept, it is asked too
     whether a processor is stuck."""
     known = test.map()
-    places = test.find(known)
+    wanted = Wanted(test.find(known), test.expected(known))
     with test.script() as keys:
-        playing = Playing(test, program, timeout, keys, kept or {}, most_held)
+        playing = Playing(test, program, timeout, keys, kept or {}, hold)
         found = seen(playing)
-        whole = judged_end(playing, found, known) or results_of(test, found, places)
-        differs = whole.missed or (kept is not None and any(kept.get(key, it) != it for key, it in whole.results.items()))
+        other_builds = others(known, test.cart, found.memory)
+        if other_builds and not found.stop:
+            raise Untold(other_builds[0])
+        whole = judged_end(playing, found, Map() if other_builds else known) or results_of(playing, found, wanted)
+        whole.last = found.last
+        differs = whole.missed or whole.unmet or (kept is not None and any(kept.get(key, it) != it for key, it in whole.results.items()))
         if differs and found.memory and not whole.stopped:
-            whole.stuck = stuck(found.memory, known, lambda: steps_after(playing, found.end))
+            whole.stuck = stuck(found.memory, known, lambda: steps_after(playing, found.end)) or seen_behind(playing.game, test.ticks, known)
     return whole
 
 
@@ -158,7 +190,7 @@ def judged_end(playing: Playing, found: Seen, known: Map) -> Optional[Ran]:
     test, stop = playing.test, found.stop
     if stop and test.stop != (names.kind(stop.kind), stop.value):
         wanted = f"; {test.stop[0]} 0x{test.stop[1]:08x} was expected" if test.stop else ""
-        return Ran(stopped=f"{stop}{at_stop(playing, stop, known)}{wanted}")
+        return Ran(stopped=f"{stop}{at_stop(playing, stop, known)}{wanted}; see {stop.page}")
     if test.stop and not stop:
         return Ran(missed=f"it came to tick {test.ticks}, and the stop {test.stop[0]} 0x{test.stop[1]:08x} was expected")
     if test.frames and max(test.frames) not in {it.number for it in found.sums}:
@@ -167,15 +199,47 @@ def judged_end(playing: Playing, found: Seen, known: Map) -> Optional[Ran]:
     return None
 
 
-def results_of(test: Test, found: Seen, places: List[Tuple[Asked, Place]]) -> Ran:
+@dataclass(frozen=True)
+class Wanted:
+    """The places that a test keeps, and the conditions that are to hold, of its end and of frames."""
+
+    places: List[Tuple[Asked, Place]]
+    conditions: List[Tuple[Expected, Condition]]
+
+    def of(self, frame: int) -> "Wanted":
+        """Returns those of a frame, or of the end for 0."""
+        return Wanted([it for it in self.places if it[0].frame == frame], [it for it in self.conditions if it[0].frame == frame])
+
+    def judge(self, record: Memory, whole: Ran) -> None:
+        """Takes what the memories hold into a run's results, and the conditions that don't hold there."""
+        for asked, place in self.places:
+            whole.results[asked.key] = kept_value(asked, place, record)
+        for asked_for, it in self.conditions:
+            if not it.holds(record):
+                whole.unmet.append(f"{asked_for.when}{it.text} was expected, and {it.shown(record)}")
+
+
+def kept_value(asked: Asked, place: Place, record: Memory) -> str:
+    """Returns what is kept of a place: a text, or its numbers as the line asks; in a form that the place tells, as :s16, they are decimal."""
+    content = place.bytes_in(record)
+    if asked.kind == "text":
+        return as_text(text_in(content))
+    if place.is_told and asked.kind == "peek":
+        return place.told_in(record)
+    return shown(content) if asked.kind == "peek" else decimals(content, place.width if place.is_told else 0)
+
+
+def results_of(playing: Playing, found: Seen, wanted: Wanted) -> Ran:
     """Returns the results that the test keeps."""
-    whole = Ran(frames=found.frames)
+    test, whole = playing.test, Ran(frames=found.frames)
     whole.results["end"] = f"stop {test.stop[0]} 0x{test.stop[1]:08x}" if test.stop else "done"
     for shot in sorted(found.sums, key=lambda it: (it.number, it.screen)):
         whole.results[shot.key] = found.sums[shot]
-    for asked, place in places:
-        content = place.bytes_in(found.memory) if found.memory else b""
-        whole.results[asked.key] = {"text": as_text(text_in(content)), "peek": shown(content), "decimal": decimals(content)}[asked.kind]
+    missed = look_at_moments(playing, wanted, whole)
+    if missed:
+        return Ran(missed=missed)
+    if found.memory:
+        wanted.of(0).judge(found.memory, whole)
     if test.has_vertices:
         whole.results.update(listed(found.lists))
     if found.sum:
@@ -183,9 +247,25 @@ def results_of(test: Test, found: Seen, places: List[Tuple[Asked, Place]]) -> Ra
     return whole
 
 
-def decimals(content: bytes) -> str:
-    """Writes bytes as signed numbers: of words, or of halves or bytes where they aren't whole words."""
-    width = 4 if len(content) % 4 == 0 else 2 if len(content) % 2 == 0 else 1
+def look_at_moments(playing: Playing, wanted: Wanted, whole: Ran) -> str:
+    """Looks at the frames of which something is kept or expected; returns why one of them isn't there."""
+    test = playing.test
+    ticks = {names.ticks_of_frames(it): it for it in test.moments}
+    if not ticks:
+        return ""
+
+    def take(look: Look) -> str:
+        if look.memory:
+            wanted.of(ticks[look.tick]).judge(look.memory, whole)
+        return "" if look.memory else f"the run stopped before frame {ticks[look.tick]} was whole"
+
+    with closing(Looker(playing.game, 1).each(list(ticks), take)) as looks:
+        return next((missed for _, missed in looks if missed), "")
+
+
+def decimals(content: bytes, width: int = 0) -> str:
+    """Writes bytes as signed numbers: of words, or of halves or bytes where they aren't whole words, where nothing tells."""
+    width = width or width_of(len(content))
     return " ".join(str(int.from_bytes(content[at : at + width], "little", signed=True)) for at in range(0, len(content), width))
 
 

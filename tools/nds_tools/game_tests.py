@@ -7,9 +7,10 @@ import re
 import shlex
 from contextlib import AbstractContextManager
 from dataclasses import dataclass, field
-from typing import Dict, Iterable, List, Optional, Set, Tuple
+from typing import Callable, Dict, Iterable, List, Optional, Set, Tuple, TypeVar
 
 from nds_tools import names, scripts
+from nds_tools.conditions import Condition, condition
 from nds_tools.elf import Elf
 from nds_tools.game_states import Start, merged, start_of, text_of
 from nds_tools.memory import Map, Place
@@ -24,8 +25,11 @@ MOST_TICKS = 100_000_000_000
 HEAD = "# What nds-test compares; nds-test --update writes it.\n"
 SCREENS = {"both": slice(None), "upper": slice(SCREEN), "lower": slice(SCREEN, None)}
 ONCE = {"cart": 1, "elf9": 1, "elf7": 1, "keys": 1, "dtcm": 1, "frames": 1, "ticks": 1, "from": None, "expect": None}
-OFTEN = ("keep", *scripts.BY_FRAME)
-KINDS_KEPT = ("frame", "picture", "peek", "decimal", "text", "vertices", "output")
+OFTEN = ("keep", "at", *scripts.BY_FRAME)
+KINDS_OF_PLACES = ("peek", "decimal", "text")
+KINDS_KEPT = ("frame", "picture", *KINDS_OF_PLACES, "vertices", "output")
+BEFORE_COMMENT = re.compile(r"""(?:[^#"'\\]|\\.|"(?:[^"\\]|\\.)*"|'[^']*')*""")
+T = TypeVar("T")
 
 
 @dataclass(frozen=True)
@@ -51,16 +55,30 @@ class Shot:
 
 @dataclass(frozen=True)
 class Asked:
-    """A place that a test keeps, as a line of it asks for it."""
+    """A place that a test keeps, as a line of it asks for it: at the end, or when a frame becomes whole."""
 
     kind: str
     text: str
     line: int
+    frame: int = 0
 
     @property
     def key(self) -> str:
         """Returns the name of the result."""
-        return f"{self.kind} {self.text}"
+        return f"{f'at frame {self.frame} ' if self.frame else ''}{self.kind} {self.text}"
+
+
+@dataclass(frozen=True)
+class Expected:
+    """A condition that a test wants to hold, at the end, or when a frame becomes whole."""
+
+    text: str
+    line: int
+    frame: int = 0
+
+    @property
+    def when(self) -> str:
+        return f"at frame {self.frame}, " if self.frame else ""
 
 
 @dataclass
@@ -78,6 +96,7 @@ class Test:
     ticks: int = 0
     shots: Dict[Shot, bool] = field(default_factory=dict)
     places: List[Asked] = field(default_factory=list)
+    conditions: List[Expected] = field(default_factory=list)
     has_vertices: bool = False
     has_output: bool = False
     stop: Optional[Tuple[str, int]] = None
@@ -120,15 +139,30 @@ class Test:
     def map(self) -> Map:
         return Map((Elf(self.elf9) if self.elf9 else None, Elf(self.elf7) if self.elf7 else None), self.dtcm)
 
+    @property
+    def moments(self) -> List[int]:
+        """Returns the frames at whose end something is looked at."""
+        return sorted({it.frame for it in [*self.places, *self.conditions] if it.frame})
+
+    @property
+    def is_of_conditions_alone(self) -> bool:
+        """Whether it keeps nothing, and so needs no results that were kept."""
+        return bool(self.conditions) and not (self.shots or self.places or self.has_vertices or self.has_output or self.stop)
+
     def find(self, known: Map) -> List[Tuple[Asked, Place]]:
         """Returns the places that are asked for; one that isn't known is named by its line."""
-        found = []
-        for it in self.places:
-            try:
-                found.append((it, known.find(it.text, it.kind == "text")))
-            except Untold as why:
-                raise Untold(f"{self.path}: line {it.line}: {why}") from None
-        return found
+        return [(it, self.told(it.line, lambda: known.find(it.text, it.kind == "text"))) for it in self.places]
+
+    def expected(self, known: Map) -> List[Tuple[Expected, Condition]]:
+        """Returns the conditions that are to hold; one that can't be read is named by its line."""
+        return [(it, self.told(it.line, lambda: condition(it.text, known))) for it in self.conditions]
+
+    def told(self, line: int, what: Callable[[], T]) -> T:
+        """Returns what can't be told without a line's words, and names the line where it can't."""
+        try:
+            return what()
+        except Untold as why:
+            raise Untold(f"{self.path}: line {line}: {why}") from None
 
     def script(self) -> "AbstractContextManager[str]":
         """Gives the name of the key script's file as the program takes it, as long as it is used. Where other keys lead to the state from which the
@@ -148,8 +182,9 @@ class Test:
         """Refuses a test that asks for what lies before the tick at which it begins."""
         if self.ticks <= tick:
             raise Untold(f"{self.path}: it begins at tick {tick}, from its state, and runs to tick {self.ticks}")
-        early, begun = min(self.frames, default=0), names.frames_below(tick)
-        if self.frames and early <= begun:
+        asked, begun = self.frames | set(self.moments), names.frames_below(tick)
+        early = min(asked, default=0)
+        if asked and early <= begun:
             raise Untold(f"{self.path}: frame {early} is whole before tick {tick}, at which its state was saved; it has frames from {begun + 1} on")
 
 
@@ -159,6 +194,7 @@ class Lines:
     def __init__(self, test: Test) -> None:
         self.test, self.folder, self.at = test, os.path.dirname(test.path), 0
         self.seen: Set[str] = set()
+        self.bare = ""
 
     def file(self, name: str) -> str:
         return os.path.join(self.folder, name)
@@ -168,6 +204,7 @@ class Lines:
             try:
                 words = shlex.split(line, comments=True)
                 if words:
+                    self.bare = without_comment(line)
                     self.line(words)
             except ValueError as why:
                 raise Untold(f"{self.test.path}: line {self.at}: {why}") from None
@@ -182,7 +219,7 @@ class Lines:
         wanted = ONCE.get(first)
         if wanted is not None and len(rest) != wanted:
             raise ValueError(f"{first} takes one word" + (f", and {rest[1]} is one more" if rest else ""))
-        if first in ONCE and first in self.seen:
+        if first in ONCE and first in self.seen and first != "expect":
             raise ValueError(f"{first} stands twice")
         self.seen.add(first)
         if first in scripts.BY_FRAME:
@@ -233,13 +270,39 @@ class Lines:
                 shot = Shot(it, screen)
                 self.test.shots[shot] = self.test.shots.get(shot, False) or is_picture
 
+    def take_at(self, *words: str) -> None:
+        """Takes what is looked at when frames become whole: `at frame 30 60-65 keep ..` or `expect ..`."""
+        verb = next((at for at, it in enumerate(words) if it in ("keep", "expect")), 0)
+        if words[:1] != ("frame",) or verb < 2 or len(words) == verb + 1:
+            raise ValueError("at takes frames and what is looked at there: `at frame 30 keep peek score`, `at frame 30 60-65 expect lives == 3`")
+        frames = [it for word in words[1:verb] for it in span(word)]
+        if words[verb] == "expect":
+            self.test.conditions += [Expected(self.condition(), self.at, it) for it in frames]
+            return
+        kind, rest = words[verb + 1], words[verb + 2 :]
+        if kind not in KINDS_OF_PLACES or not rest:
+            raise ValueError(f"at a frame `keep` takes {', '.join(KINDS_OF_PLACES)} and places, as `at frame 30 keep peek score`")
+        self.test.places += [Asked(kind, it, self.at, frame) for frame in frames for it in rest]
+
+    def condition(self) -> str:
+        """Returns the condition of the line, with its quotation marks."""
+        return self.bare.partition("expect")[2].strip()
+
     def take_expect(self, how: str = "", *rest: str) -> None:
+        if how not in ("stop", "done"):
+            if not rest:
+                raise ValueError("expect takes `done`, `stop KIND VALUE`, or a condition, as `expect score >= 10`")
+            self.test.conditions.append(Expected(self.condition(), self.at))
+            return
+        if "the end" in self.seen:
+            raise ValueError("`expect done` or `expect stop` stands twice")
+        self.seen.add("the end")
         if how == "stop" and len(rest) == 2:
             if rest[0] not in names.KINDS.values():
                 raise ValueError(f"there is no stop {rest[0]}{near(rest[0], names.KINDS.values())}; there are {', '.join(names.KINDS.values())}")
             self.test.stop = (rest[0], number(rest[1]))
         elif how != "done" or rest:
-            raise ValueError("expect takes `done` or `stop KIND VALUE`")
+            raise ValueError("expect takes `done`, `stop KIND VALUE`, or a condition, as `expect score >= 10`")
 
     def check(self) -> None:
         """Refuses a test that can't be run, or that keeps nothing."""
@@ -255,20 +318,26 @@ class Lines:
         if test.start and test.start.is_made:
             self.check_keys(test.start)
             test.check_start(test.start.tick)
-        late = max(test.frames, default=0)
+        late = max(test.frames | set(test.moments), default=0)
         if late > test.last_frame:
             raise Untold(f"{path}: frame {late} isn't whole by tick {test.ticks}; `frames {late}` runs that far")
-        if test.stop and test.places:
-            raise Untold(f"{path}: a run that stops writes no memories, so `keep {test.places[0].kind}` and `expect stop` don't go together")
-        if not (test.shots or test.places or test.has_vertices or test.has_output or test.stop):
-            raise Untold(f"{path}: it keeps nothing, so it would pass whatever the game does: add a line `keep ..`")
-
+        at_end = [f"keep {it.kind}" for it in test.places if not it.frame] + [f"expect {it.text}" for it in test.conditions if not it.frame]
+        if test.stop and at_end:
+            raise Untold(f"{path}: a run that stops writes no memories, so `{at_end[0]}` and `expect stop` don't go together")
+        if not (test.shots or test.places or test.conditions or test.has_vertices or test.has_output or test.stop):
+            raise Untold(f"{path}: it keeps nothing, so it would pass whatever the game does: add a line `keep ..` or `expect ..`")
 
     def check_keys(self, start: Start) -> None:
         """Refuses keys of the test's own before its state, where other keys lead there."""
         early = min((it.first for it in self.test.held), default=0)
         if start.keys and early and names.FRAME_TICKS * (early - 1) < start.tick:
             raise Untold(f"{self.test.path}: keys are held in frame {early}, before the state's tick {start.tick}, to which those of {start.keys} lead")
+
+
+def without_comment(line: str) -> str:
+    """Returns a line up to a # outside quotation marks."""
+    form = BEFORE_COMMENT.match(line)
+    return form[0] if form else line
 
 
 def near(word: str, known: Iterable[str]) -> str:
@@ -363,14 +432,18 @@ def read_kept(path: str) -> Optional[Results]:
     if not os.path.exists(path):
         return None
     found: Results = {}
-    with open(path, encoding="utf-8") as it:
-        for at, line in enumerate(it, 1):
-            if line.startswith("#") or not line.strip():
-                continue
-            key, is_line, value = line.rstrip("\n").partition(" = ")
-            if not is_line or key in found:
-                raise Untold(f"{path}: line {at} is no result: `KEY = VALUE` is wanted, each key once; --update writes the file anew")
-            found[key] = value
+    try:
+        with open(path, encoding="utf-8") as it:
+            lines = it.read().split("\n")
+    except UnicodeDecodeError:
+        raise Untold(f"{path} is no text; --update writes the file anew") from None
+    for at, line in enumerate(lines, 1):
+        if line.startswith("#") or not line.strip():
+            continue
+        key, is_line, value = line.partition(" = ")
+        if not is_line or key in found:
+            raise Untold(f"{path}: line {at} is no result: `KEY = VALUE` is wanted, each key once; --update writes the file anew")
+        found[key] = value
     return found
 
 

@@ -1,7 +1,7 @@
 """Pictures of frames that are kept beside a test's sums: read back from PNG, and compared with what a run draws."""
 import struct
 import zlib
-from typing import Dict, List, Tuple
+from typing import Dict, List
 
 from nds_tools import png
 from nds_tools.words import Untold, bytes_of
@@ -9,6 +9,8 @@ from nds_tools.words import Untold, bytes_of
 SIGNATURE = b"\x89PNG\r\n\x1a\n"
 # Bytes a pixel by PNG's type of colour: red, green and blue, and these with an opacity.
 CHANNELS = {2: 3, 6: 4}
+# How far a picture is looked for that was moved.
+MOVED = 8
 
 
 def parts_of(name: str, whole: bytes) -> Dict[bytes, bytes]:
@@ -92,6 +94,48 @@ def changed(before: bytes, now: bytes) -> List[int]:
     return [at for at, (a, b) in enumerate(zip(png.pixels_of(before), png.pixels_of(now))) if (a ^ b) & 0x7FFF]
 
 
+def boxes(places: List[int]) -> str:
+    """Tells of pixels that differ how many there are, and the least box that holds them, by screen."""
+    told = []
+    for screen, first in (("upper", 0), ("lower", png.WIDTH * png.HEIGHT)):
+        mine = [it - first for it in places if first <= it < first + png.WIDTH * png.HEIGHT]
+        if mine:
+            rows, columns = [it // png.WIDTH for it in mine], [it % png.WIDTH for it in mine]
+            box = f"({min(columns)}, {min(rows)}) to ({max(columns)}, {max(rows)})"
+            told.append(f"{len(mine):,} pixel{'' if len(mine) == 1 else 's'} of the {screen} screen in the box {box}")
+    return " and ".join(told)
+
+
+def rows_in(content: bytes) -> List[bytes]:
+    return [content[at : at + 2 * png.WIDTH] for at in range(0, len(content), 2 * png.WIDTH)]
+
+
+def is_moved(before: List[bytes], now: List[bytes], right: int, down: int) -> bool:
+    """Whether a screen's rows are other rows moved by some pixels, but for those that come in at the edges, and differ from them between these."""
+    first, last = max(right, 0), png.WIDTH + min(right, 0)
+    differs = False
+    for row in range(max(down, 0), len(before) + min(down, 0)):
+        here = now[row][2 * first : 2 * last]
+        if here != before[row - down][2 * (first - right) : 2 * (last - right)]:
+            return False
+        differs = differs or here != before[row][2 * first : 2 * last]
+    return differs
+
+
+def moved(before: bytes, now: bytes) -> str:
+    """Tells where a screen's picture is the one before, moved by up to MOVED pixels; nothing where it isn't."""
+    screen, told = 2 * png.WIDTH * png.HEIGHT, []
+    for name, at in (("upper", 0), ("lower", screen)):
+        one, two = rows_in(before[at : at + screen]), rows_in(now[at : at + screen])
+        if one == two:
+            continue
+        ways = [(x, y) for y in range(-MOVED, MOVED + 1) for x in range(-MOVED, MOVED + 1)]
+        found = next((it for it in sorted(ways, key=lambda it: abs(it[0]) + abs(it[1])) if is_moved(one, two, *it)), None)
+        if found:
+            told.append(f"the {name} screen is as it was, moved by ({found[0]}, {found[1]})")
+    return "; ".join(told)
+
+
 def write_difference(folder: str, name: str, before: bytes, now: bytes) -> str:
     """Writes a picture of what differs, red over the dimmed picture that was kept, and returns its path."""
     places, table = set(changed(before, now)), png.colours()
@@ -102,8 +146,8 @@ def write_difference(folder: str, name: str, before: bytes, now: bytes) -> str:
     return png.write(folder, name, before, 1, paint)
 
 
-def write_three(folder: str, stem: str, before: bytes, now: bytes) -> Tuple[str, int]:
-    """Writes what was expected, what is there and the difference; returns the path of the last, and how many pixels differ."""
+def write_three(folder: str, stem: str, before: bytes, now: bytes) -> str:
+    """Writes what was expected, what is there and the difference; returns the path of the last."""
     png.write(folder, f"{stem}-expected.png", before)
     png.write(folder, f"{stem}-actual.png", now)
-    return write_difference(folder, f"{stem}-difference.png", before, now), len(changed(before, now))
+    return write_difference(folder, f"{stem}-difference.png", before, now)

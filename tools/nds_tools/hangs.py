@@ -5,6 +5,7 @@ from dataclasses import dataclass
 from typing import Dict, List, Optional, Tuple
 
 from nds_tools import names
+from nds_tools.elf import ALLOC
 from nds_tools.memory import Map
 from nds_tools.records import Memory
 
@@ -12,6 +13,8 @@ STUB_END = 0x1E4
 STUB = (0xFFFF_0000, 0)
 IRQ_MODE, ABORT_MODE, UNDEFINED_MODE = 0x12, 0x17, 0x1B
 THUMB = 0x20
+# Below DTCM a stack that left it is looked for this far, and above main memory's first place.
+BELOW, PAST_MAIN = 0x10_0000, 0x0240_0000
 # Where the word of flags stands that IntrWait looks at; the handler's pointer follows it.
 FLAGS = (("dtcm", 0x3FF8), ("wram7", 0xFFF8))
 # The stack of IRQ mode at boot. The stub puts r0 to r3, r12 and r14 on it, in this order upwards.
@@ -141,7 +144,7 @@ def waits(spot: Spot, record: Memory, known: Map) -> Finding:
 def at_vector(spot: Spot, record: Memory, known: Map, hint: str) -> Finding:
     """Returns why a processor stays at a vector, and the instruction that brought it there."""
     at = spot.in_stub
-    text = f"it stays at the vector {at:02x}h: {VECTORS[at]}{hint if at == 0 else ''}"
+    text = f"it stays at the vector {at:02x}h: {VECTORS[at]}{(hint or called(spot, known)) if at == 0 else ''}"
     suffix = {(0x04, UNDEFINED_MODE): "und", (0x0C, ABORT_MODE): "abt"}.get((at, spot.mode))
     if suffix is None:
         return Finding(text, True)
@@ -160,10 +163,42 @@ def outside(spot: Spot, record: Memory, known: Map, hint: str) -> Optional[Findi
     if word == (TO_ITSELF_THUMB if size == 2 else TO_ITSELF):
         if size == 4 and known.word_at(spot.proc, spot.address - 4, record) == HALTS:
             return Finding("halted for good before a branch to itself, as the image does that make-cart gives where there is no program")
-        return Finding("in an endless branch to itself: the program ended there, or gave up", True)
+        what = "an interrupt handler that doesn't end" if spot.mode == IRQ_MODE else "the program ended there, or gave up"
+        return Finding(f"in an endless branch to itself: {what}", True)
     is_empty = spot.address < 0x0200_0000 and (spot.proc == 1 or not any(record.memories["itcm"][spot.address % 0x8000 :][:4]))
-    text = "it runs through zeros, each an instruction that does nothing: a jump through a null pointer, or a lost return address"
-    return Finding(text + hint, True) if is_empty else None
+    if is_empty:
+        text = "it runs through zeros, each an instruction that does nothing: a jump through a null pointer, or a lost return address"
+        return Finding(text + hint + called(spot, known), True)
+    if known.has_none(spot.proc, spot.address & ~1):
+        return Finding(f"it runs where no memory is: a jump to a wrong address, or a lost return address{hint}{called(spot, known)}", True)
+    return stack_left(spot, known)
+
+
+def called(spot: Spot, known: Map) -> str:
+    """Tells the call before a place that r14 leads back to, where it leads into the program; nothing otherwise."""
+    elf = known.elves[spot.proc]
+    back = spot.registers[f"r14{names.MODES.get(spot.mode, ('', ''))[1]}"]
+    at = (back & ~1) - (2 if back & 1 else 4)
+    if not elf or not any(first <= at < end for first, end in elf.code()):
+        return ""
+    return f"; the last call was at {at:08x} ({elf.near(at)}), by r14"
+
+
+def stack_left(spot: Spot, known: Map) -> Optional[Finding]:
+    """Returns that a mode's stack pointer is where no stack is: in a section of the program, below DTCM, or where no memory is."""
+    r13 = spot.registers[f"r13{names.MODES.get(spot.mode, ('', ''))[1]}"]
+    elf = known.elves[spot.proc]
+    inside = next((it for it in elf.sections if it.flags & ALLOC and it.address < r13 < it.address + it.size), None) if elf else None
+    name = elf.section_name(inside) if elf and inside else ""
+    where_in = elf.near(r13) if elf and inside else ""
+    if inside and "stack" not in f"{name}{where_in}".lower():
+        return Finding(f"its stack left its region: r13 is {r13:08x}, in {name}{f' ({where_in})' if where_in else ''}, which the program has", True)
+    if spot.proc == 0 and known.dtcm_base - BELOW <= r13 < known.dtcm_base and r13 >= PAST_MAIN:
+        return Finding(f"its stack left its region: r13 is {r13:08x}, below DTCM, which begins at {known.dtcm_base:08x}", True)
+    # (0 stands in no stack at boot: a program that has none may have written it)
+    if r13 and known.has_none(spot.proc, r13 - 4 & 0xFFFF_FFFC):
+        return Finding(f"its stack left its region: r13 is {r13:08x}, where no memory is", True)
+    return None
 
 
 def finding(spot: Spot, record: Memory, known: Map) -> Optional[Finding]:

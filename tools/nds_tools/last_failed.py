@@ -14,7 +14,7 @@ class LastFailed:
     def read(self) -> Set[str]:
         if not os.path.exists(self.path):
             return set()
-        with open(self.path, encoding="utf-8") as it:
+        with open(self.path, encoding="utf-8", errors="surrogateescape") as it:
             return {line.rstrip("\n") for line in it if line.strip()}
 
     def among(self, tests: List[Tuple[str, str]]) -> List[Tuple[str, str]]:
@@ -29,7 +29,7 @@ class LastFailed:
             now = now - {os.path.abspath(path)} if is_good else now | {os.path.abspath(path)}
         if now and now != before:
             os.makedirs(self.folder, exist_ok=True)
-            with open(self.path, "w", encoding="utf-8") as it:
+            with open(self.path, "w", encoding="utf-8", errors="surrogateescape") as it:
                 it.write("".join(f"{path}\n" for path in sorted(now)))
         elif before and not now:
             os.remove(self.path)

@@ -117,6 +117,13 @@ def function(number: int, rank: int) -> str:
     return name or OWN_NUMBERS.get(number, "which no boot ROM has")
 
 
+def page(code: int, value: int) -> str:
+    """Returns where a document tells of a stop and what to do."""
+    if kind(code) != "Swi":
+        return "docs/FORMATS.md#a-run-that-stops"
+    return f"docs/COMING_FROM.md#{'a-failed-assertion-an-early-end' if value in OWN_NUMBERS else 'the-boot-roms-functions'}"
+
+
 def frame_number(tick: int) -> int:
     """Returns the number, from 1, of the frame that becomes whole at a tick; 0 where none does."""
     count, rest = divmod(tick - FIRST_FRAME, FRAME_TICKS)

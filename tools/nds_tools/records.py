@@ -104,6 +104,10 @@ class Stop:
     kind: int
     value: int
 
+    @property
+    def page(self) -> str:
+        return names.page(self.kind, self.value)
+
     def __str__(self) -> str:
         meant = f" ({names.function(self.value, self.rank)})" if names.kind(self.kind) == "Swi" else ""
         return f"{names.kind(self.kind)} 0x{self.value:08x}{meant} at tick {self.tick} by {names.actor(self.rank)}"

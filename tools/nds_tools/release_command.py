@@ -2,39 +2,52 @@
 
     tools/make-release [-o FILE.tar.gz] [--program PATH]
 
-  -o FILE         where it goes; left out, nds-COMMIT.tar.gz. Beside it comes FILE.sha256, which `sha256sum -c` reads
-  --program PATH  a program that was proved and built of these sources elsewhere, as `rt ci` leaves it in crates/nds/out/nds; left out,
-                  the one that ./nds builds
+  -o FILE         where it goes; left out, nds-VERSION.tar.gz of the commit that has the tag vVERSION, and nds-VERSION-COMMIT.tar.gz of
+                  another. Beside it comes FILE.sha256, which `sha256sum -c` reads
+  --program PATH  a program that ./nds built of these sources elsewhere, with PATH.proved beside it, as ./nds writes out/nds.proved; left
+                  out, the one that ./nds builds here
 
-The archive holds one folder, nds-COMMIT: the wrapper `nds`, which runs out/nds there, and beside that out/nds.proved, the sums of the program
-and of the sources, the commit and the toolchain that proved it, which `./nds --version` tells; tools/, docs/, examples/, the README, the
-licences; and SHA256SUMS of all of it. The same commit and program make the same archive, byte for byte, by one version of Python. What is
-packed has to be committed. Before it is handed out the archive is unpacked and tried: its program assembles a listing, and the examples'
-tests pass.
+What a program was proved of is told by the file that ./nds wrote when it had proved and built it. A program without one, or with one that
+tells of another program or of other sources, is refused.
 
-Ends with 0; with 1 where something isn't committed, or the archive doesn't work; and with 2 where it can't be made."""
+The archive holds one folder, of the archive's name: the wrapper `nds`, which runs out/nds there, and beside that out/nds.proved, the sums of
+the program and of the sources, the version, the commit and the toolchain that proved it, which `./nds --version` tells; tools/, docs/,
+examples/ with the states that their tests begin from, the README, the changelog, the licences; and SHA256SUMS of all of it. A link of a page
+to what isn't packed is its text alone there. The same commit and program make the same archive, byte for byte, by one version of Python.
+What is packed has to be committed. Before it is handed out the archive is unpacked and tried: its program assembles a listing, and the
+examples' tests pass.
+
+Ends with 0; with 1 where something isn't committed, where nobody tells what the program was proved of, or the archive doesn't work; and with
+2 where it can't be made."""
+import contextlib
 import gzip
 import hashlib
 import io
 import os
+import re
 import subprocess
 import sys
 import tarfile
 import tempfile
 from dataclasses import dataclass
-from typing import Dict, List, Optional
+from typing import Callable, Dict, Iterator, List
 
+from nds_tools.links import with_live_links
+from nds_tools.progress import Progress
 from nds_tools.program import PROGRAM, TOP, finished, ready
 from nds_tools.words import GOOD, Refused, Untold, Words, bytes_of
 
 TOOL = "make-release"
 USAGE = "tools/make-release [-o FILE.tar.gz] [--program PATH]"
-PACKED = ("README.md", "LICENSE-MIT", "LICENSE-APACHE", "nds", "docs", "examples", "tools")
+PACKED = ("README.md", "CHANGELOG.md", "LICENSE-MIT", "LICENSE-APACHE", "nds", "docs", "examples", "tools")
 # What of these serves the repository alone.
-LEFT_OUT = ("docs/bench/", "tools/tests/", "tools/hostile/", "tools/make-release", "tools/nds_tools/release_command.py")
+LEFT_OUT = ("docs/bench/", "tools/tests/", "tools/hostile", "tools/definitions", "tools/statement-size", "tools/loop-in-line",
+            "tools/make-release", "tools/nds_tools/hostile", "tools/nds_tools/release_command.py", "tools/nds_tools/spec_names.py",
+            "tools/nds_tools/lemma_names.py", "tools/nds_tools/statement.py", "tools/nds_tools/links.py")  # fmt: skip
 SOURCES = ("crates", "crates.txt")
 LISTING = os.path.join("examples", "loop.arm9.txt")
-TESTS = (os.path.join("examples", "c-game", "tests"), os.path.join("examples", "scene", "tests"))
+FROM = re.compile(rb"^\s*from\s", re.M)
+VERSION = re.compile(r"^version=(\S+)$", re.M)
 SECONDS = 600.0
 # What a program has in it that is checked as it runs.
 UNPROVED = b"AddressSanitizer"
@@ -74,19 +87,49 @@ def tracked() -> Dict[str, File]:
     return found
 
 
-def proved_of(program: bytes) -> str:
-    """Returns what the program was proved of: the lines of out/nds.proved where that is of this program, otherwise as this repository is."""
+def version() -> str:
+    """Returns the version, which stands in the wrapper."""
+    with open(os.path.join(TOP, "nds"), encoding="utf-8") as it:
+        found = VERSION.search(it.read())
+    if not found:
+        raise Untold("the wrapper nds has no line version=")
+    return found[1]
+
+
+def name_of(number: str) -> str:
+    """Returns the archive's name: the version, and the commit where that isn't the version's own, which its tag tells."""
+    is_tagged = f"v{number}" in git("tag", "--points-at", "HEAD").split()
+    return f"nds-{number}" if is_tagged else f"nds-{number}-{git('log', '-1', '--format=%h').strip()}"
+
+
+def proved_of(path: str, program: bytes, number: str) -> str:
+    """Returns what the program was proved of, by the file beside it; refuses one of another program or of other sources."""
+    told: Dict[str, str] = {}
+    if os.path.exists(f"{path}.proved"):
+        with open(f"{path}.proved", encoding="utf-8") as it:
+            told = {name: text for name, _, text in (line.rstrip("\n").partition(" ") for line in it)}
     sum_of = hashlib.sha256(program).hexdigest()
-    path = os.path.join(TOP, "out", "nds.proved")
-    if os.path.exists(path):
-        with open(path, encoding="utf-8") as it:
-            text = it.read()
-        if text.startswith(f"program {sum_of}\n"):
-            return text
+    if told.get("program") != sum_of or not told.get("kit"):
+        beside = "of another program" if told else "not there"
+        raise Refused(f"nobody tells that {path} was proved: {path}.proved, which ./nds writes when it has proved and built it, is {beside}")
     sources = subprocess.run([os.path.join(TOP, "nds"), "--sources"], capture_output=True, text=True).stdout.strip()
-    with open(os.path.join(TOP, "README.md"), encoding="utf-8") as it:
-        kit = next((line.split("`")[1] for line in it if "rattle-kit" in line and "`" in line), "not known")
-    return f"program {sum_of}\nsources {sources}, as make-release was told\ncommit {git('rev-parse', 'HEAD').strip()}\nkit {kit}\n"
+    if not sources or told.get("sources") != sources:
+        raise Refused(f"{path} was proved of other sources than those that are here")
+    return f"program {sum_of}\nversion {number}\nsources {sources}\ncommit {git('rev-parse', 'HEAD').strip()}\nkit {told['kit']}\n"
+
+
+def with_links(files: Dict[str, File]) -> Dict[str, File]:
+    """Returns the files with pages whose links lead to what is packed alone."""
+    folders = {os.path.dirname(name) for name in files}
+
+    def is_there(path: str) -> bool:
+        return path in files or path in folders or any(it.startswith(f"{path}/") for it in folders)
+
+    found = dict(files)
+    for name, file in files.items():
+        if name.endswith(".md"):
+            found[name] = File(with_live_links(name, file.content.decode(), is_there).encode())
+    return found
 
 
 def archive(folder: str, files: Dict[str, File], time: int) -> bytes:
@@ -101,31 +144,58 @@ def archive(folder: str, files: Dict[str, File], time: int) -> bytes:
     return whole.getvalue()
 
 
-def tried(content: bytes, folder: str) -> str:
-    """Unpacks an archive elsewhere and tries it; returns what the examples' tests said."""
+@contextlib.contextmanager
+def unpacked(content: bytes, folder: str) -> Iterator[str]:
+    """Unpacks an archive elsewhere, and hands out where its folder is."""
     with tempfile.TemporaryDirectory(prefix="nds-release-") as room:
         with tarfile.open(fileobj=io.BytesIO(content)) as tar:
             tar.extractall(room, **SAFELY)
-        top = os.path.join(room, folder)
-        environment = {name: it for name, it in os.environ.items() if not name.startswith("NDS_")}
-        how = {"cwd": top, "env": environment, "stdin": subprocess.DEVNULL, "capture_output": True, "timeout": SECONDS}
-        version = subprocess.run([os.path.join(top, "nds"), "--version"], **how)
-        listing = subprocess.run([os.path.join(top, "nds"), "asm", LISTING], **how)
-        if version.returncode or not version.stdout.startswith(b"nds, proved\n") or listing.returncode or not listing.stdout:
-            raise Refused(f"the archive's program doesn't run: {(version.stderr or listing.stderr).decode('utf-8', 'replace').strip()}")
-        tests = [it for it in TESTS if os.path.isdir(os.path.join(top, it))]
-        if not tests:
+        yield os.path.join(room, folder)
+
+
+def run_in(top: str, *words: str) -> "subprocess.CompletedProcess[bytes]":
+    """Runs a command of an unpacked archive, as one who has nothing else."""
+    environment = {name: it for name, it in os.environ.items() if not name.startswith("NDS_")}
+    return subprocess.run(words, cwd=top, env=environment, stdin=subprocess.DEVNULL, capture_output=True, timeout=SECONDS)
+
+
+def tests_of(files: Dict[str, File]) -> List[str]:
+    """Returns the names of the examples' tests."""
+    return sorted(it for it in files if it.startswith("examples/") and it.endswith(".test"))
+
+
+def states(content: bytes, folder: str, tests: List[str]) -> Dict[str, File]:
+    """Returns the states that these tests begin from, as the archive's own program makes them."""
+    with unpacked(content, folder) as top:
+        made = run_in(top, sys.executable, os.path.join("tools", "nds-test"), *tests, "--remake")
+        if made.returncode:
+            raise Refused(f"the archive's states can't be made: {said_first(made)}")
+        paths = [os.path.join(at, it) for at, _, names in os.walk(os.path.join(top, "examples")) for it in names if it.endswith(".state")]
+        return {os.path.relpath(it, top): File(bytes_of(it)) for it in paths}
+
+
+def tried(content: bytes, folder: str, number: str, is_tested: bool) -> str:
+    """Unpacks an archive elsewhere and tries it; returns what the examples' tests said."""
+    with unpacked(content, folder) as top:
+        version_said, listing = (run_in(top, "./nds", *it) for it in (["--version"], ["asm", LISTING]))
+        if not version_said.stdout.startswith(f"nds {number}, proved\n".encode()) or listing.returncode or not listing.stdout:
+            raise Refused(f"the archive's program doesn't run: {(version_said.stderr or listing.stderr).decode('utf-8', 'replace').strip()}")
+        if not is_tested:
             return "no tests"
-        ran = subprocess.run([sys.executable, os.path.join(top, "tools", "nds-test"), *tests], **how)
-        said = ran.stdout.decode("utf-8", "replace").strip().splitlines()
+        ran = run_in(top, sys.executable, os.path.join("tools", "nds-test"), "examples")
         if ran.returncode:
-            raise Refused(f"the archive's tests don't pass: {(said or [ran.stderr.decode('utf-8', 'replace').strip()])[0]}")
-        return said[-1]
+            raise Refused(f"the archive's tests don't pass: {said_first(ran)}")
+        return ran.stdout.decode("utf-8", "replace").strip().splitlines()[-1]
 
 
-def program_of(path: Optional[str]) -> bytes:
-    """Returns the program's bytes, after a try; without a path those of the one that ./nds builds."""
-    found = path or ready(None)
+def said_first(ran: "subprocess.CompletedProcess[bytes]") -> str:
+    """Returns the first line that tells what isn't good, of the output or of the notes."""
+    lines = (ran.stdout + ran.stderr).decode("utf-8", "replace").strip().splitlines() or ["it said nothing"]
+    return next((it for it in lines if not it.startswith(("PASS", "KEPT"))), lines[0])
+
+
+def program_of(found: str) -> bytes:
+    """Returns the program's bytes, after a try."""
     content = bytes_of(found)
     if not content.startswith(PROGRAM) and not content.startswith(b"#!"):
         raise Untold(f"{found} is no program")
@@ -148,14 +218,23 @@ def main() -> int:
     words.add_argument("--program")
     given = words.read()
     files = tracked()
-    commit, time = git("log", "-1", "--format=%h %ct").split()
-    folder = f"nds-{commit}"
-    program = program_of(given.program)
+    time, number = int(git("log", "-1", "--format=%ct")), version()
+    folder = name_of(number)
+    path = given.program or ready(None)
+    program = program_of(path)
     files["out/nds"] = File(program, True)
-    files["out/nds.proved"] = File(proved_of(program).encode())
-    files["SHA256SUMS"] = File(sums(files))
-    content = archive(folder, files, int(time))
-    said = tried(content, folder)
+    files["out/nds.proved"] = File(proved_of(path, program, number).encode())
+    files = with_links(files)
+    tests = tests_of(files)
+    from_states = [it for it in tests if FROM.search(files[it].content)]
+    with Progress(TOOL) as progress:
+        progress.now("making the states that tests begin from")
+        if from_states:
+            files.update(states(archive(folder, files, time), folder, from_states))
+        files["SHA256SUMS"] = File(sums(files))
+        content = archive(folder, files, time)
+        progress.now(f"trying the archive: its program and {len(tests)} tests")
+        said = tried(content, folder, number, bool(tests))
     out = given.out or f"{folder}.tar.gz"
     with open(out, "wb") as it:
         it.write(content)

@@ -12,8 +12,9 @@
               that run stops, it is shown as it is at the tick of the stop
   NAME.test   a test of nds-test, of which cartridge, keys, ELF files and, where nothing is said, the last tick are taken
   PLACE       words to show: [9:|7:]ADDRESS, [9:|7:]SYMBOL or @MEMORY, then +BYTES and :WORDS where you like, as score, score:4,
-              0x2001000:8, 7:counter, @vram+0x40:2. A symbol is as long as the ELF file says, otherwise a word. Memories are
-              main, wram, wram7, itcm, dtcm, palette, vram and oam
+              0x2001000:8, 7:counter, @vram+0x40:2; or numbers in a form, as speed:s16, grid:8u8. A symbol is as long as the ELF file
+              says, otherwise a word; of one with types (-g) fields and elements can be named, lamps[2].number, and numbers have their
+              sign. Memories are main, wram, wram7, itcm, dtcm, palette, vram and oam
   --elf9 F, --elf7 F   the ELF files of both programs, for their symbols
   --text      shows places as text, up to the first zero
   --all       all 37 registers, those of every mode too; of a state all its fields too, each with its offset in bytes
@@ -32,10 +33,12 @@ file is no state; a place, a symbol or a file isn't there. docs/BOOT_ROM.md tell
 import argparse
 import io
 import shlex
+import sys
 from dataclasses import dataclass
 from typing import Iterable, List, Optional, Tuple
 
 from nds_tools import names, scripts
+from nds_tools.builds import not_in_memory, others
 from nds_tools.elf import Elf
 from nds_tools.game_tests import MOST_TICKS, Test, test_of
 from nds_tools.hangs import waiting, where
@@ -117,8 +120,10 @@ def places(record: Memory, known: Map, asked: List[str], is_text: bool) -> List[
             lines.append(f"  {text_in(content)}")
         for at in [] if is_text else range(0, len(content), 32):
             part = content[at : at + 32]
-            value = f"  ({int.from_bytes(part, 'little')})" if len(content) <= 4 else ""
-            lines.append(f"  +{at:03x}  {shown(part)}{value}")
+            is_short = at == 0 and (len(content) <= 4 or (place.number and len(content) <= 16))
+            value = f"  ({place.told_in(record)})" if is_short else ""
+            lines.append(f"  +{at:03x}  {shown(part, place.width)}{value}")
+        lines += [] if is_text else [f"  {it}" for it in known.fields_in(place, content)]
     return lines
 
 
@@ -126,7 +131,7 @@ def run_to(stop: Stop, cart: Optional[str], keys: str, nds: Optional[str]) -> Tu
     """Runs to the tick of a stop where there is a cartridge, and otherwise tells the command that does so."""
     words = words_of_run(cart or "GAME.nds", keys, max(stop.tick, 1), "none")
     command = " ".join(map(shlex.quote, (program(nds) if nds else "./nds", *words)))
-    lines = [f"stopped: {stop} (rank {stop.rank})"]
+    lines = [f"stopped: {stop} (rank {stop.rank})", f"  see {stop.page}"]
     if stop.tick == 0:
         return lines + ["  at its first step: r15 is the entry"], None
     if cart is None:
@@ -156,7 +161,7 @@ class Run:
         found = self.to(ticks)
         if not found.stop:
             return found
-        print(f"stopped: {found.stop} (rank {found.stop.rank})", flush=True)
+        print(f"stopped: {found.stop} (rank {found.stop.rank})\n  see {found.stop.page}", flush=True)
         if found.stop.tick == 0:
             raise Untold(f"it stopped at its first step, and r15 is the entry: {found.stop}")
         print("  as it is at that tick, before the step:")
@@ -201,6 +206,8 @@ def show_state(given: argparse.Namespace) -> int:
     """Shows a saved state: of a file, or of a cartridge at a tick."""
     state = state_of(given.state) if given.state else saved_at(given)
     known = state.map(map_of(given.elf9, given.elf7, given.dtcm), banks_of(state))
+    for it in not_in_memory(known, state.memory):
+        print(f"{TOOL}: {it}", file=sys.stderr)
     asked = [known.find(it).name for it in given.places]
     lines = head_lines(state)
     if given.state and given.cart:
@@ -259,6 +266,9 @@ def main() -> int:
     found = of_game(given, test) if test or given.frame or given.ticks else of_output(given)
     if not found.memory or not found.end:
         raise Untold("the output has no memories")
+    cart = test.cart if test else given.cart or (given.output if given.frame or given.ticks else None)
+    for it in others(known, cart, found.memory) if cart else not_in_memory(known, found.memory):
+        print(f"{TOOL}: {it}", file=sys.stderr)
     print(f"tick {found.end.ticks}, {found.end.ticks / names.SECOND:.3f} s; steps of ARM9 {found.end.steps9}, of ARM7 {found.end.steps7}")
     for proc in range(2):
         print("\n".join(processor(proc, found.memory, known, given.all)))

@@ -97,8 +97,8 @@ def counts_told(text):
 
 
 def counted(top, word, folders):
-    """How many lines in how many sources and specs name a word."""
+    """How many lines in how many files name a word, as grep finds them in a clone that has built nothing."""
     found = re.compile(rf"\b{word}\b")
-    patterns = [f"{folder}/**/*.{kind}" for folder in folders for kind in ("rt", "antt")]
-    hits = [sum(1 for line in path.read_text(encoding="utf8").splitlines() if found.search(line)) for path in files(top, patterns)]
+    paths = [path for path in files(top, [f"{folder}/**/*" for folder in folders]) if path.is_file()]
+    hits = [sum(1 for line in path.read_bytes().decode("utf8", "replace").splitlines() if found.search(line)) for path in paths]
     return sum(hits), sum(1 for hit in hits if hit)

@@ -1,10 +1,10 @@
 """The fields of a saved state in order, by GBATEK's names where it has one, each with its rule (docs/STATES.md has both as a table).
 
 A rule that looks at several fields stands at the last of them."""
-from typing import Dict, List, Optional
+from typing import Dict, List, Optional, Tuple
 
 from nds_tools import names
-from nds_tools.records import MOST_POLYGONS, MOST_VERTICES
+from nds_tools.records import MOST_POLYGONS, MOST_VERTICES, End, Memory
 from nds_tools.states import DIGEST_BYTES, LETTER, NO_TICK, VERSION, Field, Fields, Rule, Seen, State, Value, Wanted
 from nds_tools.states import read, written
 
@@ -302,7 +302,7 @@ def geometry(seen: Seen, at: int) -> Fields:
     for name in ("diffuse", "ambient", "specular", "emission"):
         yield Field(f"{name} colour", "H", rule=COLOUR)
     yield Field("SHININESS on", "B", rule=FLAG)
-    yield Field("SHININESS", "I", 32)
+    yield Field("SHININESS", "s", 128)
     for light in range(4):
         for way in "xyz":
             yield Field(f"LIGHT_VECTOR {light} {way}", "i")
@@ -452,6 +452,12 @@ def card(seen: Seen, at: int) -> Fields:
 def read_state(content: bytes, wanted: Wanted = Wanted()) -> State:
     """Reads a state, and raises Broken where the bytes are none."""
     return read(content, layout, wanted)
+
+
+def memory_in(content: bytes) -> Tuple[Memory, End]:
+    """Returns the memories, registers and counts of a state that the program wrote; what follows them isn't read."""
+    state = read(content, layout, last=list(names.SIZES)[-1])
+    return state.memory, End(state.tick, *(state[it] for it in ("steps of ARM9", "steps of ARM7", "events", "turns")))
 
 
 def write_state(values: Dict[str, Value]) -> bytes:

@@ -2,16 +2,20 @@
 from typing import List
 
 from nds_tools import names
-from nds_tools.hangs import INTERRUPTS, here
+from nds_tools.hangs import INTERRUPTS, IRQ_MODE, here
 from nds_tools.state_banks import has_space, mapped, unmapped_with_content
-from nds_tools.state_fields import BANKS, STALLED
+from nds_tools.state_fields import BANKS, LINE, STALLED
 from nds_tools.state_ports import bits, flags_of
 from nds_tools.states import State
 
 # The part of the boot ROM stub that waits for an interrupt's flag; it halts with IME 0, and sets it after.
 WAITS = range(0xBC, 0x128)
+# Its entry of interrupts, on the way to a handler and back.
+ENTRY = range(0x18, 0x44)
 I_FLAG = 0x80
 V_BLANK = 1
+# The display's interrupts, which are asked for at the tick at which a frame is whole.
+OF_DISPLAY = 7
 # The bits of DISPSTAT that ask for the interrupts 0 to 2.
 ASKED_AT = 3
 
@@ -22,7 +26,7 @@ def of_processor(state: State, which: int) -> List[str]:
     enabled, flags, is_on = state[f"{proc} IE"], flags_of(state, which), state[f"{proc} IME"]
     masked = state[f"{proc} cpsr"] & I_FLAG
     if not state[f"{proc} halted"]:
-        if enabled & flags and not (is_on and not masked):
+        if enabled & flags and not (is_on and not masked) and not is_soon_taken(state, which, enabled & flags):
             why = "IME is 0" if not is_on else "CPSR's I flag is set"
             found.append(f"{proc}: {bits(enabled & flags)} asked for and enabled, and no interrupt is taken: {why}")
         return found
@@ -36,6 +40,15 @@ def of_processor(state: State, which: int) -> List[str]:
     if not enabled & V_BLANK:
         found.append(f"{proc} is halted and V-blank's interrupt isn't enabled: IE bit 0 is 0; it waits for {bits(enabled)}")
     return found + unasked(state, proc, enabled)
+
+
+def is_soon_taken(state: State, which: int, asked: int) -> bool:
+    """Tells whether it is usual that interrupts which are asked for aren't taken yet: the processor is in a handler, which has the I flag set; in the
+    boot ROM stub's IntrWait, which sets IME; or the display asked for them less than a line ago, as at each tick at which a frame is whole."""
+    spot = here(which, state.memory)
+    if spot.mode == IRQ_MODE or spot.in_stub in ENTRY or (spot.in_stub in WAITS and not spot.cpsr & I_FLAG):
+        return True
+    return not asked & ~OF_DISPLAY and (state.tick - names.FIRST_FRAME) % names.FRAME_TICKS < LINE
 
 
 def unasked(state: State, proc: str, enabled: int) -> List[str]:

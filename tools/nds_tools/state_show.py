@@ -89,8 +89,7 @@ def field_lines(state: State) -> List[str]:
     lines = ["fields, each with its offset"]
     for it in state.placed:
         numbers = it.value if isinstance(it.value, tuple) else (0,)
-        short = it.field.size <= 128 if isinstance(it.value, tuple) else it.field.size <= 32
-        value = " ".join(spelled(it, at) for at in range(len(numbers))) if short else f"{it.field.size} bytes"
+        value = " ".join(spelled(it, at) for at in range(len(numbers))) if it.field.size <= 128 else f"{it.field.size} bytes"
         lines.append(f"  {it.offset:8}  {it.field.name}: {value}")
     return lines
 

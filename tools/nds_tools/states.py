@@ -10,7 +10,7 @@ from typing import Any, Callable, Dict, Generator, List, Optional, Tuple, Union
 from nds_tools import names
 from nds_tools.memory import Bank, Map
 from nds_tools.records import Memory
-from nds_tools.words import Untold, bytes_of
+from nds_tools.words import Untold, bytes_of, first_byte
 
 LETTER, VERSION = 0x53, 1
 # The letter, the version, the digest, the tick, and five counts less one.
@@ -178,8 +178,8 @@ class State:
 Layout = Callable[[Seen, Wanted], Fields]
 
 
-def read(content: bytes, layout: Layout, wanted: Wanted = Wanted()) -> State:
-    """Reads a state, and raises Broken where the bytes are none."""
+def read(content: bytes, layout: Layout, wanted: Wanted = Wanted(), last: Optional[str] = None) -> State:
+    """Reads a state, and raises Broken where the bytes are none. With the name of a field it reads that far alone."""
     seen, placed, at = Seen(), [], 0
     for field in layout(seen, wanted):
         part = content[at : at + field.size]
@@ -196,6 +196,8 @@ def read(content: bytes, layout: Layout, wanted: Wanted = Wanted()) -> State:
         seen[field.name] = value
         placed.append(Placed(field, at, value))
         at += field.size
+        if field.name == last:
+            return State(placed)
     if at < len(content):
         raise Broken(at, "the end", f"{len(content) - at} bytes are left over")
     return State(placed)
@@ -243,11 +245,8 @@ def head_of(name: str) -> Head:
 
 
 def is_state(name: str) -> bool:
-    """Whether a file may be a saved state, by its first byte, with which no record of a run begins. Standard input is taken as a run's output."""
-    if name == "-":
-        return False
-    with open(name, "rb") as it:
-        return it.read(1) == bytes([LETTER])
+    """Whether a file, a pipe or standard input, for `-`, may be a saved state, by its first byte, with which no record of a run begins."""
+    return first_byte(name) == bytes([LETTER])
 
 
 def content_of(name: str) -> bytes:

@@ -1,9 +1,11 @@
 """nds-trace: shows a processor's steps with the program's functions, or sums them by function.
 
     tools/nds-trace GAME.nds --frames N|--ticks N [--keys F] [--proc 9|7] [--elf9 F] [--elf7 F] [--count N] [how it is shown]
+    tools/nds-trace NAME.test [--frames N|--ticks N] [--proc 9|7] [--count N] [how it is shown]
     tools/nds-trace --read TRACE [--proc 9|7] [--elf9 F] [--elf7 F] [how it is shown]
 
   GAME.nds     the cartridge; it is run with the keys of --keys until N frames are whole, or to tick N
+  NAME.test    a test of nds-test, of which cartridge, keys, ELF files and, where nothing is said, the last tick are taken
   --keys F     a key script, keys by frame, or a recording (.dsm)
   --read F     a trace that `nds trace` wrote; `-` is standard input
   --proc P     whose steps: 9, which is meant where it is left out, or 7
@@ -30,13 +32,16 @@ from contextlib import contextmanager
 from typing import Iterable, Iterator, List, Optional
 
 from nds_tools import names, scripts
+from nds_tools.builds import others
 from nds_tools.elf import Elf
+from nds_tools.game_tests import ENDING, Test, test_of
+from nds_tools.memory import Map
 from nds_tools.program import DONE, LEFT_OUT, output_of, plain, ready, said, start
 from nds_tools.traces import Functions, Profile, Stay, Step, profile_of, stays, steps_in
 from nds_tools.words import GOOD, Refused, Untold, Words, opened
 
 TOOL = "nds-trace"
-USAGE = "tools/nds-trace GAME.nds --frames N|--ticks N [--keys F] [--proc 9|7] [--elf9 F] [--count N] [--since T] [--in F] [--last N] [--functions|--profile]"
+USAGE = "tools/nds-trace GAME.nds|NAME.test --frames N|--ticks N [--keys F] [--proc 9|7] [--elf9 F] [--count N] [--since T] [--in F] [--last N] [--functions|--profile]"
 MOST_STEPS = 1_000_000
 
 
@@ -60,16 +65,16 @@ def lines_of(run: "subprocess.Popen[bytes]", ticks: int, count: int, keys: str) 
 
 
 @contextmanager
-def trace(given: argparse.Namespace) -> Iterator[Iterator[Step]]:
+def trace(given: argparse.Namespace, test: Optional[Test]) -> Iterator[Iterator[Step]]:
     """Gives the steps of the trace that is read or made."""
     if given.read:
         with opened(given.read) as it:
             yield steps_in(it, "standard input" if given.read == "-" else given.read)
         return
-    ticks = given.ticks or names.ticks_of_frames(given.frames)
-    with scripts.of_file(given.keys) as script:
+    ticks = given.ticks or (names.ticks_of_frames(given.frames) if given.frames else test.ticks if test else 0)
+    with test.script() if test else scripts.of_file(given.keys) as script:
         keys = script if script == scripts.NONE else plain(script)
-        run = start(ready(given.nds), "trace", plain(given.cart), keys, str(ticks), given.proc, str(given.count))
+        run = start(ready(given.nds), "trace", plain(test.cart if test else given.cart), keys, str(ticks), given.proc, str(given.count))
         try:
             yield steps_in(lines_of(run, ticks, given.count, given.keys), "the trace")
         finally:
@@ -133,7 +138,8 @@ def check(given: argparse.Namespace) -> None:
     """Refuses words that don't go together."""
     if bool(given.cart) == bool(given.read):
         raise Untold("it wants a cartridge, or --read TRACE")
-    if given.cart and (given.frames is None) == (given.ticks is None):
+    is_told = given.frames is not None or given.ticks is not None
+    if given.cart and (given.frames is not None) == (given.ticks is not None) and (is_told or not given.cart.endswith(ENDING)):
         raise Untold("it wants either --frames N or --ticks N, to which the cartridge is run")
     if given.read and (given.frames is not None or given.ticks is not None):
         raise Untold("--frames and --ticks go with a cartridge, and not with --read")
@@ -148,9 +154,11 @@ def check(given: argparse.Namespace) -> None:
 
 
 def functions_of(given: argparse.Namespace) -> Functions:
-    """Returns the functions of the processor's program; the one of --in has to be among them."""
+    """Returns the functions of the processor's program; the one of --in has to be among them. An ELF file of another build is told."""
     file = given.elf9 if given.proc == "9" else given.elf7
     functions = Functions("97".index(given.proc), Elf(file) if file else None)
+    for it in others(Map((functions.elf, None) if given.proc == "9" else (None, functions.elf)), given.cart) if given.cart else []:
+        tell(it)
     inside = getattr(given, "in")
     if inside and not inside.startswith("boot ROM ") and not (functions.elf and functions.elf.find(inside)):
         raise Untold(f"no function {inside} is known{f': {file} has none' if file else f', since --elf{given.proc} names no ELF file'}")
@@ -159,9 +167,12 @@ def functions_of(given: argparse.Namespace) -> Functions:
 
 def main() -> int:
     given = read_words()
+    test = test_of(given.cart, elf9=given.elf9, elf7=given.elf7, keys=given.keys) if given.cart else None
+    if test:
+        given.elf9, given.elf7, given.cart, given.keys = test.elf9, test.elf7, test.cart, test.keys
     functions = functions_of(given)
     shown = 0
-    with trace(given) as whole:
+    with trace(given, test) as whole:
         steps = chosen(whole, given.since, getattr(given, "in"), functions)
         if given.profile:
             profile = profile_of(ending(steps, given.last), functions)

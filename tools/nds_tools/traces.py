@@ -87,9 +87,15 @@ class Functions:
         """Whether a step halts the processor, so that the time to the next one isn't the step's."""
         return step.address - STUB[self.proc] in STUB_HALTS or WAIT.fullmatch(step.text) is not None
 
+    def named(self, address: int) -> str:
+        """Returns an address's place: by its line of source where the ELF file tells it, otherwise by how far it is in its function."""
+        place = self.at(address)
+        line = self.elf.line_of(address) if self.elf and place.offset else ""
+        return f"{line} in {place.function}" if line else str(place)
+
     def shown(self, step: Step) -> str:
         """Writes a step's line with its place, and with the function that a branch goes to."""
-        place = str(self.at(step.address))
+        place = self.named(step.address)
         form = TARGET.fullmatch(step.text)
         target = str(self.at(int(form[1], 16))) if form else NOWHERE
         more = f"  ; {target}" if target != NOWHERE else ""

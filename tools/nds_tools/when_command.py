@@ -1,45 +1,48 @@
-"""nds-when: tells the first tick and frame at which a condition on memory holds, by runs to fewer and fewer ticks.
+"""nds-when: tells the first tick and frame at which a condition on memory holds, by a look at each frame.
 
     tools/nds-when GAME.nds CONDITION [--keys F] [--elf9 F] [--elf7 F] [--frames N | --ticks N] [--dtcm A] [--jobs N] [--timeout S] [--nds PATH]
     tools/nds-when NAME.test CONDITION [--frames N | --ticks N] [..]
 
   GAME.nds     the cartridge; or a test of nds-test, of which cartridge, keys, ELF files and the last tick are taken
   CONDITION    'PLACE OP VALUE', or several with `and` between them: 'score >= 5', 'lives == 0 and level > 2', 'message == "game over"'.
-               A place is one of nds-show's, of a byte, a half or a word; OP is == != < <= > or >=; VALUE a number, another place, or with
-               == and != a text. Numbers are taken as unsigned, and as signed where the condition has a number below 0
+               A place is one of nds-show's, of one number; OP is == != < <= > or >=; VALUE a number, another place, the name of an enum's
+               value, or with == and != a text. Numbers have a sign where the place tells (x:s16), where the ELF file does (-g), and where
+               the condition has a number below 0, or asks for < 0 or >= 0
   --frames N   looks up to frame N, 600 where nothing is said; --ticks N up to that tick
   --keys F     a key script, keys by frame, or a recording (.dsm)
   --jobs N     how many runs at a time; left out, as many as there are processors
   --timeout S  how many seconds a run may take, 600 where it is left out
 
-It tells the tick before which the condition doesn't hold and from which on it does, the frame in which that is, what the places held and
-hold, and where both processors stood. A condition that holds, ends and holds again may be told at a later time than its first.
+It looks at tick 1 and each time a frame becomes whole, in order, as nds-watch does, and where the condition holds first, searches the tick in
+that frame. It tells the tick before which the condition doesn't hold and from which on it does, the frame in which that is, what the places
+held and hold, and where both processors stood. What holds for less than a frame, and at no frame's end, isn't seen.
 
-Ends with 0; with 1 where the condition doesn't hold up to there; and with 2 where that can't be judged."""
+Ends with 0; with 1 where the condition holds at no frame's end up to there; and with 2 where that can't be judged."""
 import argparse
-import io
 import os
+import tempfile
 from concurrent.futures import ThreadPoolExecutor
-from contextlib import ExitStack
+from contextlib import ExitStack, closing
 from dataclasses import dataclass, field
 from typing import Dict, List, Optional, Tuple
 
 from nds_tools import names, scripts
+from nds_tools.builds import refuse_others
 from nds_tools.conditions import Condition, condition
 from nds_tools.game_tests import MOST_TICKS, test_of
 from nds_tools.hangs import where
+from nds_tools.looks import Game, Look, Looker
 from nds_tools.memory import Map
-from nds_tools.program import DONE, LEFT_OUT, finished, ready, said, words_of_run
-from nds_tools.records import End, Reader, Stop
-from nds_tools.show_command import ending, map_of
+from nds_tools.program import ready
+from nds_tools.progress import Progress
+from nds_tools.records import End, Stop
+from nds_tools.show_command import map_of
 from nds_tools.words import FAILED, GOOD, Untold, Words, count_from
 
 TOOL = "nds-when"
 USAGE = """tools/nds-when GAME.nds|NAME.test CONDITION [--keys F] [--elf9 F] [--elf7 F] [--frames N | --ticks N] [--dtcm A]
                       [--jobs N] [--timeout S] [--nds PATH]"""
 FRAMES = 600
-# How many times as many points as run side by side are looked at where the condition doesn't hold at the end.
-ROUNDS = 4
 
 
 @dataclass(frozen=True)
@@ -55,75 +58,70 @@ class Seen:
 
 @dataclass
 class Search:
-    """Runs of one game to this tick and that, and what the condition is there. The same tick is never run twice."""
+    """Looks at one game, and what the condition is at each. The same tick is never looked at twice."""
 
-    program: str
-    cart: str
-    keys: str
-    timeout: float
+    game: Game
     condition: Condition
     known: Map
     jobs: int
     seen: Dict[int, Seen] = field(default_factory=dict)
 
-    def run(self, ticks: int) -> Seen:
-        """Runs to a tick; the memories are let go of as soon as they were looked at."""
-        status, out, note = finished(self.program, self.timeout, *words_of_run(self.cart, self.keys, ticks, "none"))
-        if status not in (DONE, LEFT_OUT):
-            raise Untold(scripts.explained(said(note, status), self.keys))
-        found = ending(Reader(io.BytesIO(out), "the run"))
-        if not found.memory:
-            return Seen(False, "nothing is known", [], None, found.stop)
-        spots = [where(proc, found.memory.registers[proc]["r15"], self.known) for proc in range(2)]
-        return Seen(self.condition.holds(found.memory), self.condition.shown(found.memory), spots, found.end, None)
+    def take(self, look: Look) -> Seen:
+        """Judges a look; its memories are let go of then."""
+        if not look.memory:
+            return Seen(False, "nothing is known", [], None, look.stop)
+        spots = [where(proc, look.memory.registers[proc]["r15"], self.known) for proc in range(2)]
+        return Seen(self.condition.holds(look.memory), self.condition.shown(look.memory), spots, look.end, None)
 
-    def at(self, ticks: int) -> Seen:
+    def at(self, ticks: int, game: Optional[Game] = None) -> Seen:
         if ticks not in self.seen:
-            self.seen[ticks] = self.run(ticks)
+            self.seen[ticks] = self.take((game or self.game).look(ticks))
         return self.seen[ticks]
 
-    def holds(self, ticks: int) -> bool:
-        return self.at(ticks).holds
-
-    def holds_at(self, ticks: List[int]) -> List[bool]:
-        """Tells for each tick whether the condition holds, by runs side by side."""
+    def first_of(self, ticks: List[int], game: Game) -> Optional[int]:
+        """Returns which of the ticks is the first at which the condition holds, by runs side by side."""
         with ThreadPoolExecutor(self.jobs) as pool:
-            return list(pool.map(self.holds, ticks))
-
-    def first_of(self, ticks: List[int]) -> Optional[int]:
-        """Returns which of the ticks is the first at which the condition holds."""
-        return next((at for at, it in enumerate(self.holds_at(ticks)) if it), None)
+            held = list(pool.map(lambda it: self.at(it, game).holds, ticks))
+        return next((at for at, it in enumerate(held) if it), None)
 
     def between(self, low: int, high: int) -> int:
-        """Returns a tick at which the condition begins to hold, where it doesn't at `low` and does at `high`."""
-        while high - low > 1:
-            count = min(self.jobs, high - low - 1)
-            points = [low + (high - low) * it // (count + 1) for it in range(1, count + 1)]
-            found = self.first_of(points)
-            low, high = (points[-1], high) if found is None else ((points[found - 1] if found else low), points[found])
+        """Returns a tick at which the condition begins to hold, where it doesn't at `low` and does at `high`; runs go on from `low`."""
+        with tempfile.TemporaryDirectory(prefix="nds-when-") as folder:
+            path = os.path.join(folder, "low.state")
+            game = self.game.on_from(path) if self.game.state is None and self.game.saved(low, path) else self.game
+            while high - low > 1:
+                count = min(self.jobs, high - low - 1)
+                points = [low + (high - low) * it // (count + 1) for it in range(1, count + 1)]
+                found = self.first_of(points, game)
+                low, high = (points[-1], high) if found is None else ((points[found - 1] if found else low), points[found])
         return high
 
 
-def spread(last: int, count: int) -> List[int]:
-    """Returns up to so many ticks below the last one, evenly spread, at ends of frames where there are enough of these."""
-    frames = (last - 1 - names.FIRST_FRAME) // names.FRAME_TICKS + 1
-    if frames < count:
-        return sorted({max(last * it // (count + 1), 1) for it in range(1, count + 1)})
-    return [names.ticks_of_frames(frames * it // count) for it in range(1, count + 1)]
+def looked_at(last: int) -> List[int]:
+    """Returns the ticks that are looked at behind the first, up to the last one: each at which a frame is whole, and the last."""
+    return sorted({last, *(names.ticks_of_frames(it) for it in range(1, names.frames_below(last) + 1))})
 
 
-def found_tick(search: Search, last: int) -> Tuple[Optional[int], int]:
+def found_tick(search: Search, last: int, progress: Progress) -> Tuple[Optional[int], int]:
     """Returns the tick at which the condition begins to hold, if it does, and the last tick that was looked at."""
-    stop = search.at(last).stop
-    last = max(stop.tick, 1) if stop else last
-    if search.holds(1):
+    if search.at(1).holds:
         return 1, last
-    count = search.jobs if search.holds(last) else search.jobs * ROUNDS
-    points = sorted({*spread(last, count), last} - {1})
-    first = search.first_of(points)
-    if first is None:
-        return None, last
-    return search.between(points[first - 1] if first else 1, points[first]), last
+    before = 1
+    with closing(Looker(search.game, search.jobs).each(looked_at(last), search.take)) as looks:
+        for tick, seen in looks:
+            search.seen[tick] = seen
+            if seen.stop:
+                last = max(seen.stop.tick, 1)
+                tick, seen = last, search.at(last)
+            if seen.holds:
+                break
+            before = tick
+            progress.step(f"frame {names.frames_below(tick)}")
+        else:
+            return None, last
+    if seen.holds:
+        progress.now(f"it holds at the end of frame {names.frames_below(tick)}, and its tick is searched")
+    return (search.between(before, tick) if seen.holds else None), last
 
 
 def frame_of(tick: int) -> int:
@@ -160,8 +158,9 @@ def lines(search: Search, tick: int) -> List[str]:
 def not_found(search: Search, last: int) -> str:
     """Returns what is told where the condition doesn't hold."""
     stop = next((it.stop for it in search.seen.values() if it.stop), None)
-    looked = f"at any of the {len(search.seen)} ticks that were looked at"
-    text = f"{search.condition.text} doesn't hold up to tick {last}, in frame {frame_of(last)}, {looked}"
+    frames = names.frames_below(last)
+    looked = f"at the end of none of {frames} frames" if frames else "at none of the ticks"
+    text = f"{search.condition.text} holds {looked} up to tick {last}, in frame {frame_of(last)}; between these it wasn't looked at"
     return f"{text}\n  there: {search.at(last).shown}{f'; the run stops: {stop}' if stop else ''}"
 
 
@@ -201,7 +200,10 @@ def main() -> int:
             known, cart, last = map_of(given.elf9, given.elf7, given.dtcm), given.game, last_tick(given, names.ticks_of_frames(FRAMES))
             keys = stack.enter_context(scripts.of_file(given.keys or scripts.NONE))
         wanted = condition(given.condition, known)
-        search = Search(ready(given.nds), cart, keys, given.timeout, wanted, known, given.jobs)
-        tick, last = found_tick(search, last)
+        game = Game(ready(given.nds), cart, keys, keys, given.timeout)
+        refuse_others(known, cart, lambda: game.look(last).memory)
+        search = Search(game, wanted, known, given.jobs)
+        with Progress(TOOL, len(looked_at(last)), "looks") as progress:
+            tick, last = found_tick(search, last, progress)
         print(not_found(search, last) if tick is None else "\n".join(lines(search, tick)))
     return FAILED if tick is None else GOOD

@@ -1,9 +1,10 @@
 """How each tool reads its words, names its errors and ends: 0 for good, 1 for what differs or failed, 2 for what can't be judged."""
 import argparse
 import difflib
+import io
 import os
 import sys
-from typing import Callable, IO, NoReturn
+from typing import Callable, Dict, IO, NoReturn, cast
 
 GOOD, FAILED, UNTOLD = 0, 1, 2
 
@@ -70,9 +71,26 @@ def ended(tool: str, main: Callable[[], int]) -> int:
     return UNTOLD
 
 
+# Pipes whose first byte was looked at, by name: what comes of them can't be had again, so that whoever reads them next goes on there.
+looked_at: Dict[str, IO[bytes]] = {}
+
+
 def opened(name: str) -> IO[bytes]:
     """Opens a file to read its bytes; `-` is standard input."""
+    if name in looked_at:
+        return looked_at.pop(name)
     return sys.stdin.buffer if name == "-" else open(name, "rb")
+
+
+def first_byte(name: str) -> bytes:
+    """Returns the first byte of what `opened` reads, or nothing where there is none; it is still there for who opens it next."""
+    if os.path.isfile(name) and name != "-":
+        with open(name, "rb") as it:
+            return it.read(1)
+    stream = opened(name)
+    buffered = stream if isinstance(stream, io.BufferedReader) else io.BufferedReader(cast(io.RawIOBase, stream))
+    looked_at[name] = buffered
+    return buffered.peek(1)[:1]
 
 
 def bytes_of(name: str) -> bytes:

@@ -15,6 +15,7 @@ MODULES = {
     "nds-show": "show_command",
     "nds-test": "games_command",
     "nds-trace": "trace_command",
+    "nds-watch": "watch_command",
     "nds-when": "when_command",
 }
 

@@ -7,7 +7,7 @@ import tempfile
 import unittest
 
 TOP = os.path.dirname(os.path.dirname(os.path.dirname(os.path.realpath(__file__))))
-TOOLS = "sh awk find sort tr xargs sha256sum cut cat cp mv rm mkdir grep sed tail head nproc sleep dirname wc git touch env chmod basename seq readlink mktemp nice".split()
+TOOLS = "sh awk find sort tr xargs sha256sum cut cat cp mv rm mkdir grep sed tail head nproc sleep dirname wc git touch env chmod basename seq readlink mktemp nice date ls".split()
 
 
 class Small(unittest.TestCase):

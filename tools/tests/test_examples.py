@@ -106,6 +106,23 @@ class Examples(Built):
             statuses.append(ran.returncode)
         self.assertEqual(statuses, [0, 0, 0, 2, 0, 0])
 
+    def test_the_first_commands_of_the_readme(self):
+        os.remove(f"{self.room}/nds")  # a room has a fake one
+        for name in ("examples", "tools", "nds"):
+            os.symlink(f"{TOP}/{name}", f"{self.room}/{name}")
+        with open(f"{TOP}/README.md") as it:
+            text = it.read()
+        first = text.partition("## Five minutes")[2].partition("\n## ")[0]
+        self.assertLessEqual(text.index(first) + len(first), sum(len(it) + 1 for it in text.splitlines()[:60]), "it stands in the first 60 lines")
+        said = []
+        for line in re.sub(r"\\\n", "", "".join(re.findall(r"(?:^    .*\n)+", first, re.M))).splitlines():
+            ran = subprocess.run(["sh", "-c", line], cwd=self.room, env={**os.environ, "NDS_PROGRAM": PROGRAM}, capture_output=True, text=True, timeout=60)
+            self.assertEqual((ran.returncode, ran.stderr), (0, ""), line)
+            said.append(ran.stdout)
+        for number, text in enumerate(("0\n", "(4)\n", "3 PASS\n", "", "", "KEPT", "PASS", "score >= 1 holds from tick ", "message", "shots/frame-0003.png\n")):
+            self.assertIn(text, said[number])
+        self.assertTrue(os.path.exists(f"{self.room}/shots/frame-0003.png"))
+
 
 class Recipe(Room):
     """The CI recipe of the document, with a repository whose program is a fake."""
@@ -113,7 +130,7 @@ class Recipe(Room):
     def test_it_builds_once_and_then_calls_the_kept_program(self):
         block = re.search(r"    #!/bin/sh\n(?:    .*\n|\n)+?    NDS_PROGRAM.*\n", open_text("TESTING_A_GAME.md"))
         git = ["git", "-c", "user.name=test", "-c", "user.email=test@localhost"]
-        built = "#!/bin/sh\necho built >>\"$(dirname \"$0\")/../../builds\"\nmkdir -p \"$(dirname \"$0\")/out\"\ncp \"$(dirname \"$0\")/fake\" \"$(dirname \"$0\")/out/nds\"\n"
+        built = "#!/bin/sh\necho built >>\"$(dirname \"$0\")/../../builds\"\nmkdir -p \"$(dirname \"$0\")/out\"\ncp \"$(dirname \"$0\")/fake\" \"$(dirname \"$0\")/out/nds\"\necho proved >\"$(dirname \"$0\")/out/nds.proved\"\n"
         self.put("repository/nds", built)
         self.put("repository/fake", self.text("nds"))
         shutil.copytree(TOOLS, f"{self.room}/repository/tools", ignore=shutil.ignore_patterns("tests", "__pycache__"))
@@ -134,7 +151,7 @@ class Recipe(Room):
             ran = subprocess.run(["sh", "ci-test", "one.test"], cwd=self.room, env=environment, capture_output=True, text=True, timeout=60)
             self.assertEqual((ran.returncode, ran.stdout[:7]), (0, "PASS   "), ran.stdout + ran.stderr)
         self.assertEqual(self.text("builds"), "built\n")
-        self.assertEqual(sorted(os.listdir(f"{self.room}/kept")), ["calls", "nds", "tools"], "calls is the fake's own")
+        self.assertEqual(sorted(os.listdir(f"{self.room}/kept")), ["calls", "nds", "nds.proved", "tools"], "calls is the fake's own")
 
 
 def open_text(name):

@@ -1,6 +1,7 @@
 """`make-release`: what the archive holds, that it is tried, and what is refused; in a small repository whose program is a script."""
 import hashlib
 import os
+import re
 import shutil
 import subprocess
 import sys
@@ -9,6 +10,7 @@ import unittest
 
 from small import TOP, Small
 
+VERSION = re.search(r"^version=(.*)$", open(f"{TOP}/nds").read(), re.M)[1]
 # Makes a program that assembles anything to its name.
 FAKE = r"""#!/bin/sh
 [ "$1" = version ] && { echo "rattle-kit-0 logic 0"; exit 0; }
@@ -24,9 +26,9 @@ class MakeRelease(Small):
 
     def setUp(self):
         super().setUp()
-        for name in ("README.md", "LICENSE-MIT", "LICENSE-APACHE", "docs/FORMATS.md", "docs/bench/run.md", "examples/loop.arm9.txt"):
+        for name in ("README.md", "CHANGELOG.md", "LICENSE-MIT", "LICENSE-APACHE", "docs/FORMATS.md", "docs/bench/run.md", "examples/loop.arm9.txt"):
             self.write(f"{self.top}/{name}", f"{name}: `rattle-kit-0 logic 0`\n")
-        shutil.copytree(f"{TOP}/tools", f"{self.top}/tools", ignore=shutil.ignore_patterns("__pycache__", "hostile", "*.new"))
+        shutil.copytree(f"{TOP}/tools", f"{self.top}/tools", ignore=shutil.ignore_patterns("__pycache__", "hostile", "tests", "*.new"))
         self.commit()
 
     def make(self, *words, **how):
@@ -39,34 +41,78 @@ class MakeRelease(Small):
         return subprocess.run(["git", "log", "-1", f"--format={form}"], cwd=self.top, capture_output=True, text=True).stdout.strip()
 
     def test_an_archive_runs_without_the_toolchain_and_is_made_again_the_same(self):
-        status, out, _ = self.make()
-        folder = f"nds-{self.commit_of('%h')}"
-        self.assertEqual(status, 0, out)
+        status, out, notes = self.make()
+        folder = f"nds-{VERSION}-{self.commit_of('%h')}"
+        self.assertEqual((status, notes.count("\n")), (0, 1), out + notes)
         content = open_bytes(f"{self.room}/{folder}.tar.gz")
-        self.assertRegex(out, rf"^{folder}\.tar\.gz: \d+ files, {len(content):,} bytes; tried: no tests\nprogram [0-9a-f]{{64}}\n")
+        self.assertRegex(out, rf"^{folder}\.tar\.gz: \d+ files, {len(content):,} bytes; tried: no tests\nprogram [0-9a-f]{{64}}\nversion {VERSION}\n")
         self.assertEqual(self.read(f"{self.room}/{folder}.tar.gz.sha256"), f"{hashlib.sha256(content).hexdigest()}  {folder}.tar.gz\n")
         self.assertEqual(self.make("-o", "again.tgz")[0], 0)
         self.assertEqual(open_bytes(f"{self.room}/again.tgz"), content)
-        with tarfile.open(f"{self.room}/again.tgz") as tar:
-            tar.extractall(f"{self.room}/there", **({"filter": "data"} if hasattr(tarfile, "data_filter") else {}))
-        top = f"{self.room}/there/{folder}"
+        top = self.unpacked("again.tgz", folder)
         names = [os.path.relpath(os.path.join(at, it), top) for at, _, files in os.walk(top) for it in files]
-        self.assertEqual([it for it in names if it.startswith(("crates", "docs/bench", "tools/tests", "tools/make-release"))], [])
-        for name in ("nds", "out/nds", "out/nds.proved", "tools/nds-test", "tools/nds_tools/png.py", "docs/FORMATS.md", "LICENSE-MIT"):
+        self.assertEqual([it for it in names if it.startswith(("crates", "docs/bench", "tools/tests", "tools/make-release", "tools/definitions"))], [])
+        for name in ("nds", "out/nds", "out/nds.proved", "tools/nds-test", "tools/nds_tools/png.py", "docs/FORMATS.md", "LICENSE-MIT", "CHANGELOG.md"):
             self.assertIn(name, names)
         checked = subprocess.run(["sha256sum", "-c", "--quiet", "SHA256SUMS"], cwd=top, capture_output=True, text=True)
         self.assertEqual((checked.returncode, len(self.read(f"{top}/SHA256SUMS").splitlines())), (0, len(names) - 1), checked.stdout)
         self.assertEqual(self.run_it("asm", "x", at=top, has_rt=False), (0, "x\n", ""))
         said = self.run_it("--version", at=top, has_rt=False)[1].splitlines()
-        self.assertEqual((said[0], said[2:4]), ("nds, proved", [f"commit  {self.commit_of('%H')}", "kit  rattle-kit-0 logic 0"]))
+        self.assertEqual((said[0], said[2:4]), (f"nds {VERSION}, proved", [f"commit  {self.commit_of('%H')}", "kit  rattle-kit-0 logic 0"]))
+
+    def unpacked(self, name, folder):
+        with tarfile.open(f"{self.room}/{name}") as tar:
+            tar.extractall(f"{self.room}/there", **({"filter": "data"} if hasattr(tarfile, "data_filter") else {}))
+        return f"{self.room}/there/{folder}"
+
+    def test_the_tag_of_the_version_gives_the_archive_its_name(self):
+        self.git("tag", f"v{VERSION}")
+        self.assertEqual(self.make()[0], 0)
+        self.assertTrue(os.path.exists(f"{self.room}/nds-{VERSION}.tar.gz"))
+        self.assertTrue(os.path.exists(f"{self.unpacked(f'nds-{VERSION}.tar.gz', f'nds-{VERSION}')}/out/nds"))
+
+    def test_links_to_what_is_not_packed_are_texts_there(self):
+        page = "See [the rules](FORMATS.md), [runs](bench/run.md#fast), [the\ncrate](../crates/low/) and [a site](https://example.org/x).\n\n    [code](bench/run.md)\n"
+        self.write(f"{self.top}/docs/USING.md", page)
+        self.commit()
+        self.assertEqual(self.make("-o", "a.tgz")[0], 0)
+        told = self.read(f"{self.unpacked('a.tgz', 'nds-' + VERSION + '-' + self.commit_of('%h'))}/docs/USING.md")
+        self.assertEqual(told, "See [the rules](FORMATS.md), runs, the\ncrate and [a site](https://example.org/x).\n\n    [code](bench/run.md)\n")
+
+    def test_states_that_tests_begin_from_are_packed(self):
+        self.write(f"{self.top}/examples/game/later.test", "frames 9\nfrom later.state frames 3\n")
+        # (a fake of nds-test: it makes a state, and then wants it)
+        fake = "import os, sys\np = 'examples/game/later.state'\n" \
+            "if '--remake' in sys.argv: assert sys.argv[1:-1] == ['examples/game/later.test']; open(p, 'w').write('state')\nelif not os.path.exists(p): sys.exit('NEW  no state')\nprint('1 tests: 1 PASS')\n"
+        self.write(f"{self.top}/tools/nds-test", fake, 0o755)
+        self.commit()
+        status, out, _ = self.make("-o", "a.tgz")
+        self.assertEqual((status, out.partition("; ")[2].splitlines()[0]), (0, "tried: 1 tests: 1 PASS"))
+        top = self.unpacked("a.tgz", f"nds-{VERSION}-{self.commit_of('%h')}")
+        self.assertEqual(self.read(f"{top}/examples/game/later.state"), "state")
+        self.assertIn("  examples/game/later.state\n", self.read(f"{top}/SHA256SUMS"))
 
     def test_a_program_that_was_built_elsewhere(self):
         self.write(f"{self.room}/built", '#!/bin/sh\n[ "$1" = asm ] && echo built\n', 0o755)
-        status, out, _ = self.make("--program", "built", "-o", "a.tgz", has_rt=False)
+        sum_of = hashlib.sha256(open_bytes(f"{self.room}/built")).hexdigest()
         sources = self.run_it("--sources")[1].strip()
-        self.assertEqual((status, out.splitlines()[1:]), (0, [
-            f"program {hashlib.sha256(open_bytes(f'{self.room}/built')).hexdigest()}", f"sources {sources}, as make-release was told",
-            f"commit {self.commit_of('%H')}", "kit rattle-kit-0 logic 0"]))  # fmt: skip
+        right = {"program": sum_of, "sources": sources, "commit": "0, and changes", "kit": "rattle-kit-0 logic 0"}
+        refused = f"make-release: nobody tells that built was proved: built.proved, which ./nds writes when it has proved and built it, is "
+        rows = [
+            ({}, 1, refused + "not there\n"),
+            ({**right, "program": 64 * "0"}, 1, refused + "of another program\n"),
+            ({**right, "kit": ""}, 1, refused + "of another program\n"),
+            ({**right, "sources": 64 * "0"}, 1, "make-release: built was proved of other sources than those that are here\n"),
+            (right, 0, ""),
+        ]
+        for proved, status, said in rows:
+            with self.subTest(said):
+                if proved:
+                    self.write(f"{self.room}/built.proved", "".join(f"{name} {text}\n" for name, text in proved.items()))
+                ran = self.make("--program", "built", "-o", "a.tgz", has_rt=False)
+                self.assertEqual((ran[0], ran[2]), (status, said))
+        self.assertEqual(ran[1].splitlines()[1:], [
+            f"program {sum_of}", f"version {VERSION}", f"sources {sources}", f"commit {self.commit_of('%H')}", "kit rattle-kit-0 logic 0"])  # fmt: skip
 
     def test_what_is_refused(self):
         self.write(f"{self.room}/wrong", "#!/bin/sh\nexit 3\n", 0o755)

@@ -90,7 +90,7 @@ class NdsTest(Room):
         self.put("game.nds.status", "9")
         self.put("game.nds.out", frame(1) + stop(44, 22, 2, 14))
         self.put("game.nds.before", memory(nine=[(R15, 0x2000014)]) + end(44))
-        line = "STOPPED all: Swi 0x0000000e (GetCRC16) at tick 44 by ARM9, r15 02000014 step+0x4"
+        line = "STOPPED all: Swi 0x0000000e (GetCRC16) at tick 44 by ARM9, r15 02000014 step+0x4; see docs/COMING_FROM.md#the-boot-roms-functions"
         for words in ((), ("--update",)):
             self.assertEqual(self.run_it("all.test", *words)[:2], (1, f"{line}\n1 tests: 1 STOPPED\n"))
         self.assertEqual(self.text("all.expected"), before)

@@ -122,10 +122,16 @@ class Pictures(Games):
         self.keep("frames 3\nkeep picture 2\nkeep frame 1-3\n", frames=[(1, 0), (2, 5, 7), (3, 0)])
         self.assertEqual(picture(f"{self.room}/one.frame-0002.png")[:2], (256, 384))
         self.game([(1, 0), (2, 5, 7, [(10, 200, 31), (11, 200, 31)]), (3, 9)])
-        self.assertEqual(self.told(), ["FAIL    one: frames 2-3 changed, first 2, by 2 pixels: nds-test-out/one.frame-0002-difference.png"])
+        self.assertEqual(self.told(), ["FAIL    one: frames 2-3 changed, first 2, by 2 pixels of the lower screen in the box (10, 8) to (11, 8): nds-test-out/one.frame-0002-difference.png"])
         found = [picture(f"{self.room}/nds-test-out/one.frame-0002-{it}.png")[2][200][30:33] for it in ("expected", "actual", "difference")]
         self.assertEqual(found, [bytes((57, 0, 0)), bytes((255, 0, 0)), bytes((255, 0, 0))])
         self.assertEqual(picture(f"{self.room}/nds-test-out/one.frame-0002-difference.png")[2][0][:3], bytes((41 // 4, 0, 0)))
+
+    def test_the_first_frame_that_a_picture_is_kept_of_is_told_too(self):
+        self.keep("frames 3\nkeep picture 3\nkeep frame 1-2\n", frames=[(1, 0), (2, 5), (3, 0)])
+        self.game([(1, 1), (2, 6), (3, 0, 0, [(7, 9, 31), (8, 11, 31)])])
+        self.assertEqual(self.told(), ["FAIL    one: frames 1-3 changed, first 1: nds-test-out/one.frame-0001-actual.png; frame 3, by 2 pixels of the upper screen in "
+                                       "the box (7, 9) to (8, 11): nds-test-out/one.frame-0003-difference.png"])  # fmt: skip
 
     def test_a_picture_that_is_not_kept_yet_is_new(self):
         self.keep("frames 3\nkeep frame 3\n", frames=[(3, 5)])

@@ -1,34 +1,12 @@
 """`nds-when`: conditions, and the tick at which one begins to hold, on a fake program whose score rises."""
 import unittest
-from unittest import mock
 
-from made import R15, Room, elf, end, memory, stop
-
-SYMBOLS = [("score", 0x2001000, 4, 0x11), ("debt", 0x2001004, 2, 0x11), ("phase", 0x2001006, 2, 0x11), ("grid", 0x2001020, 12, 0x11),
-           ("message", 0x2001010, 8, 0x11), ("main", 0x2000000, 64, 0x12)]  # fmt: skip
+from made import end, memory
+from rising import Rising
 
 
-class NdsWhen(Room):
+class NdsWhen(Rising):
     TOOL, MODULE = "nds-when", "when_command"
-
-    def setUp(self):
-        super().setUp()
-        self.put("game.nds")
-        self.put("game.elf", elf([(0x2000000, 0x2000000, bytes(64), 64)], SYMBOLS))
-        self.last, self.runs = 10**12, []
-        patch = mock.patch("nds_tools.when_command.finished", self.finished)
-        patch.start()
-        self.addCleanup(patch.stop)
-
-    def finished(self, program, timeout, *words):
-        """Answers a run to a tick with a score, a half, a text and counts that are as they would be then."""
-        self.runs.append(words)
-        ticks = int(words[3])
-        if ticks > self.last:
-            return 9, stop(self.last), b"left out"
-        score = ticks // 10000000
-        given = [("main", 0x1000, score), ("main", 0x1004, (-score & 0xFFFF) | (ticks // 1000000 % 7) << 16), ("main", 0x1010, 0x6F67 if score > 2 else 0)]
-        return 0, memory(given, {R15: 0x2000008 if ticks % 2 else 0x200000C}) + end(ticks, ticks // 2, 5, 6, 7), b""
 
     def when(self, condition, *words):
         """Runs the tool; returns its status and the first line's tick, or the note."""
@@ -57,29 +35,33 @@ class NdsWhen(Room):
         self.assertEqual((status, out), (0, "score >= 5 holds from tick 50000000 on, in frame 45, 0.746 s; a test sees it by `frames 45`\n"
                          "  before: score 4; then: score 5; at tick 49999999 a step was taken by ARM9\n"
                          "  ARM9 stood at 02000008 (main+0x8)\n  ARM7 stood at 02000000\n"))  # fmt: skip
-        self.assertEqual(len(self.runs), len(set(self.runs)), "no tick is run twice")
-        self.assertLess(len(self.runs), 80)
+        self.assertEqual(len(self.runs), len(set(self.runs)), "no tick is run twice from the same state")
+        from_boot = [it for it in self.runs if it[0] != "resume"]
+        self.assertLess(len(from_boot), 12, "few runs go from boot")
 
     def test_a_test_tells_the_game(self):
         self.put("one.test", "cart game.nds\nelf9 game.elf\nframes 30\nkeep peek score\npress A 3\n")
         status, out, _ = self.run_it("one.test", "score >= 2")
         self.assertEqual((status, out.splitlines()[0]), (0, "score >= 2 holds from tick 20000000 on, in frame 18, 0.298 s; a test sees it by `frames 19`"))
-        self.assertRegex(" ".join(self.runs[0]), r"^run game\.nds .*made\.keys 33308941 none$")
+        self.assertRegex(" ".join(self.runs[0]), r"^run game\.nds .*made\.keys 1 none$")
         self.assertEqual(self.run_it("one.test", "score >= 5")[0], 1)
         self.assertEqual(self.run_it("one.test", "score >= 5", "--ticks", "50000000")[0], 0)
 
     def test_what_does_not_hold(self):
         status, out = self.when("score == 9")
         self.assertEqual(status, 1)
-        self.assertRegex(out, r"^score == 9 doesn't hold up to tick 66920341, in frame 60, at any of the \d+ ticks that were looked at\n  there: score 6\n$")
+        self.assertEqual(out, "score == 9 holds at the end of none of 60 frames up to tick 66920341, in frame 60; between these it wasn't looked at\n"
+                         "  there: score 6\n")  # fmt: skip
         self.last = 44000000
         self.assertEqual(self.when("score == 4"), (0, 40000000))
-        self.assertIn("doesn't hold up to tick 44000000, in frame 40,", self.when("score == 5")[1])
+        self.assertIn("score == 5 holds at the end of none of 39 frames up to tick 44000000, in frame 40;", self.when("score == 5")[1])
         self.assertIn("there: score 4; the run stops: Swi ", self.when("score == 5")[1])
 
-    def test_a_condition_that_ended_again_is_found_where_a_sample_meets_it(self):
-        status, tick = self.when("phase == 3", "--ticks", "60000000")
-        self.assertEqual((status, tick % 7000000), (0, 3000000))
+    def test_a_condition_that_ended_again_is_found_in_the_first_frame_at_whose_end_it_held(self):
+        # (a phase is less than a frame long: at the end of frame 3 it is 3 for the first time, from 3,000,000 on, and of 7,000,000 ticks)
+        self.assertEqual(self.when("phase == 3", "--ticks", "60000000"), (0, 3000000))
+        # (held for 1,000,000 ticks, from 52,000,000 on; a search by halves would begin at 60,000,000 and miss it)
+        self.assertEqual(self.when("phase == 3 and score == 5", "--ticks", "60000000"), (0, 52000000))
 
     def test_wrong_words_are_named(self):
         rows = [
@@ -87,9 +69,11 @@ class NdsWhen(Room):
             ("score = 5", "`score = 5` is no comparison: it wants PLACE ==|!=|<|<=|>|>= NUMBER, PLACE or \"TEXT\", as 'score >= 5'; = is no comparison, and == is"),
             ("score >= 5 or score == 3", "`or score == 3` follows a comparison, after which `and` comes or nothing"),
             ("score >= 5 and", "`and` follows a comparison"),
-            ("scores >= 5", "no symbol scores is known: elf9 game.elf has none; is score meant?"),
+            ("scores >= 5", "no symbol scores is known: elf9 game.elf has none; is score meant?; elf7 was not given"),
             ("score >= 5x", "5x is no number"),
-            ("grid == 5", "grid is 12 bytes, and a comparison wants one word: give grid:1"),
+            ("grid == 5", "grid is 12 bytes, and a comparison wants one number: give grid:1, or its place as grid+4:1, grid+2:s16"),
+            ("grid+4 == 5", "grid+4 is 8 bytes, and a comparison wants one number: give grid+4:1, or its place as grid+4+4:1"),
+            ("grid:2 == 5", "give grid:1, or its place as grid+4:1"),
             ('message < "go"', "texts are compared by == and !="),
         ]
         for text, said in rows:

@@ -200,7 +200,7 @@ class Show(Outputs):
         self.put("stop.out", stop(44, 22, 2, 14))
         status, out, notes = self.run_it("stop.out")
         self.assertEqual((status, notes.count("\n")), (2, 1))
-        self.assertEqual(out, "stopped: Swi 0x0000000e (GetCRC16) at tick 44 by ARM9 (rank 22)\n  this runs to that tick, before the step: ./nds run GAME.nds none 44 none >stopped.out\n")
+        self.assertEqual(out, "stopped: Swi 0x0000000e (GetCRC16) at tick 44 by ARM9 (rank 22)\n  see docs/COMING_FROM.md#the-boot-roms-functions\n  this runs to that tick, before the step: ./nds run GAME.nds none 44 none >stopped.out\n")
         cart = self.put("my game.nds")
         self.put("my game.nds.out", memory(nine=[(R15, 0x2000014)]) + end(44))
         status, out, notes = self.run_it("stop.out", "--cart", cart, "--keys", "a.keys", "--elf9", self.elf)
@@ -244,8 +244,8 @@ class Diff(Outputs):
         tail = memory() + end()
         status, out, _ = self.both(frame(1) + frame(2) + tail, frame(1) + frame(2, pixels=[(10, 20, 0x1F), (11, 20, 1), (0, 192, 0x7C00)]) + tail, "--png", "shots")
         self.assertEqual(status, 1)
-        self.assertEqual(out, "frames: 1 of 2 differ\n  frame 2: upper screen, 2 pixels, first (10, 20): 0000 (red 0, green 0, blue 0) and 001f (red 31, green 0, blue 0); "
-                              "lower screen, 1 pixels, first (0, 0): 0000 (red 0, green 0, blue 0) and 7c00 (red 0, green 0, blue 31)  "
+        self.assertEqual(out, "frames: 1 of 2 differ\n  frame 2: upper screen, 2 pixels in the box (10, 20) to (11, 20), first (10, 20): 0000 (red 0, green 0, blue 0) and 001f (red 31, green 0, blue 0); "
+                              "lower screen, 1 pixel, first (0, 0): 0000 (red 0, green 0, blue 0) and 7c00 (red 0, green 0, blue 31)  "
                               "shots/frame-0002-difference.png\n")  # fmt: skip
         rows = {it: picture(f"{self.room}/shots/frame-0002-{it}.png")[2] for it in ("a", "b", "difference")}
         self.assertEqual([rows[it][20][30:36] for it in rows], [bytes(6), b"\xff\0\0\x08\0\0", b"\xff\0\0" * 2])
@@ -258,7 +258,7 @@ class Diff(Outputs):
   02000004: 00000000 and 00000002
   02000008: 00000000 and 00000003
 oam, words: 1 of 512 differ
-  07000000: 00000000 and 00000007
+  object 0: y 0 and 7
 registers of ARM9: 2 of 37 differ
   r0 00000000 and 00000005
   r15 02000000 and 02000004

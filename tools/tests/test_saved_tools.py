@@ -119,6 +119,22 @@ class ShowState(Room):
         waits = {**HALTED, "ARM9 r15": 0xFFFF0108, "ARM9 r1": 1, "ARM9 IE": 1, "ARM9 DISPSTAT": 8, **SHOWS}
         self.assertEqual(self.shown(waits)[2], "nothing is odd")
 
+    def test_what_is_usual_at_a_frames_end_and_in_a_handler_is_not_odd(self):
+        asked = {"ARM9 IE": 1, "ARM9 IF": 1, "ARM9 cpsr": 0x1F, **SHOWS}
+        held, late = "ARM9: V-blank asked for and enabled, and no interrupt is taken: IME is 0", 817921 + 4260
+        rows = [
+            (817921, {}, ""), (817921 + 3000, {}, ""), (817921 + 1120380 * 3, {}, ""), (late, {}, held), (late, {"ARM9 IE": 9, "ARM9 IF": 9}, held.replace("blank", "blank, timer 0")),
+            (817921, {"ARM9 IE": 9, "ARM9 IF": 9}, held.replace("blank", "blank, timer 0")),
+            (late, {"ARM9 IME": 1, "ARM9 cpsr": 0x9F}, held.replace("IME is 0", "CPSR's I flag is set")),
+            # (in a handler the I flag is set, on the way there too, and in IntrWait IME is 0 for a while)
+            (late, {"ARM9 IME": 1, "ARM9 cpsr": 0x92}, ""), (late, {"ARM9 r15": 0xFFFF0100}, ""), (late, {"ARM9 r15": 0xFFFF0100, "ARM9 cpsr": 0x9F}, held),
+        ]  # fmt: skip
+        for tick, changes, line in rows:
+            with self.subTest(tick=tick, changes=changes):
+                self.put("one.state", state_at(CART, tick, {**asked, **changes}))
+                out = self.run_it("--state", "one.state")[1].splitlines()
+                self.assertEqual(out[2:4] if line else out[2:3], ["what is odd", f"  {line}"] if line else ["nothing is odd"])
+
     def test_ports_by_name(self):
         for changes, *wanted in PORTS:
             with self.subTest(wanted=wanted):

@@ -38,7 +38,7 @@ class ShowGame(Room):
         self.put("game.nds.before", memory(nine={R15: 0x2000014}) + end(44))
         status, out, _ = self.run_it("game.nds", "--frame", "2", "--elf9", "game.elf")
         self.assertEqual(status, 0)
-        self.assertIn(" at tick 44 by ARM9 (rank 22)\n  as it is at that tick, before the step:\ntick 44, ", out)
+        self.assertIn(" at tick 44 by ARM9 (rank 22)\n  see docs/COMING_FROM.md#the-boot-roms-functions\n  as it is at that tick, before the step:\ntick 44, ", out)
         self.assertIn("r15 02000014 (main+0x14)", out)
         self.put("game.nds.out", stop(0, 22, 2, 14))
         self.check([(("game.nds", "--frame", "2"), 2, "it stopped at its first step, and r15 is the entry")])

@@ -92,7 +92,7 @@ class States(unittest.TestCase):
         content = self.state.content
         rows = [
             (0, 0), (1, 1), (2, 2), (33, 2), (34, 34), (41, 34), (74, 74), (77, 74), (400, 400), (401, 400), (4194703, 400), (5015951, 4344208), (5015953, 5015953), (5018763, 5018763),
-            (5018764, 5018763), (5018765, 5018765), (5215370, 5215369), (5411984 + 63, 5411984 + 60), (5416386 + 5, 5416386 + 4), (5416662, 5416659), (5416670, 5416663), (BYTES - 1, BYTES - 8),
+            (5018764, 5018763), (5018765, 5018765), (5215370, 5215369), (5411984 + 63, 5411984 + 60), (5416386 + 5, 5416386), (5416386 + 127, 5416386), (5416386 + 128, 5416514), (5416662, 5416659), (5416670, 5416663), (BYTES - 1, BYTES - 8),
         ]  # fmt: skip
         for length, offset in rows:
             with self.subTest(length=length):
@@ -139,7 +139,7 @@ class States(unittest.TestCase):
 
     def test_values_that_do_not_fit_are_not_written(self):
         values = values_at(CART, AT)
-        for changes in ({"WRAMCNT": 256}, {"main": b""}, {"VTX x": 40000}, {"SHININESS": (0,) * 31}, {"no field": 1}):
+        for changes in ({"WRAMCNT": 256}, {"main": b""}, {"VTX x": 40000}, {"SHININESS": bytes(127)}, {"no field": 1}):
             with self.assertRaises(ValueError):
                 write_state({**values, **changes})
 

@@ -2,6 +2,7 @@
 import unittest
 
 from made import Room, elf
+from rising import Rising
 
 SYMBOLS = [("_start", 0x2000000, 8, 0x12), ("main", 0x2000008, 24, 0x12), ("tell", 0x2000020, 16, 0x12)]
 # ARM9: main calls tell, waits in IntrWait, an interrupt comes and goes; a Thumb half at the end.
@@ -135,6 +136,30 @@ class Traces(Room):
             ((*read, "--since", "2000", "--profile"), 1, "the trace has no step that was asked for"),
         ])  # fmt: skip
         self.check_command("--read", "absent", status=2, text="absent: No such file")
+
+
+class OfTests(Rising):
+    """A trace of a test's cartridge, with its keys and ELF files."""
+
+    TOOL, MODULE = "nds-trace", "trace_command"
+
+    def test_a_test_tells_the_game(self):
+        self.put("game.nds.out", TRACE)
+        self.put("game.elf", elf([(0x2000000, 0x2000000, bytes(64), 64)], [("main", 0x2000000, 64, 0x12)], sections=[(0x2000000, 64, "code")]))
+        self.put("one.test", "cart game.nds\nelf9 game.elf\nframes 3\nkeep frame 3\npress A 1\n")
+        ran = self.run_it("one.test", "--last", "1")
+        self.assertEqual((ran[0], " ".join(ran[1].split())), (0, "000000001011 03000000 (no symbol) e1a00000 mov r0, r0"))
+        # (the cartridge is one branch to itself)
+        self.assertEqual(ran[2], "nds-trace: elf9 game.elf isn't of the build in game.nds, so its symbols are others: at 02000000 (main) it has 00000000, "
+                                 "and the cartridge eafffffe\n")  # fmt: skip
+        self.assertRegex(self.calls()[0], r"^trace game\.nds .*made\.keys 3058681 9 1000000$")
+        self.run_it("one.test", "--frames", "1", "--proc", "7")
+        self.assertRegex(self.calls()[0], r"^trace game\.nds .*made\.keys 817921 7 1000000$")
+        self.check([
+            (("one.test", "--keys", "a.keys"), 2, "--keys a.keys: one.test is a test, which tells that itself"),
+            (("one.test", "--frames", "3", "--ticks", "4"), 2, "it wants either --frames N or --ticks N"),
+            (("game.nds",), 2, "it wants either --frames N or --ticks N"),
+        ])  # fmt: skip
 
 
 if __name__ == "__main__":

@@ -6,6 +6,7 @@
 uint16_t swiCRC16(uint16_t begin, const void *data, uint32_t size);
 int swiSqrt(int value);
 int swiIsDebugger(void);
+void swiChangeSoundBias(int enabled, int delay);
 void swiDecompressRLEWram(void *source, void *target);
 
 static uint32_t to[2];
@@ -16,6 +17,7 @@ int main(void)
     CHECK(swiCRC16(0xFFFF, "123456789", 9) == 0x4B37);
     CHECK(swiSqrt(144) == 12);
     CHECK(!swiIsDebugger());
+    swiChangeSoundBias(1, 0x400);
     swiDecompressRLEWram(runs, to);
     CHECK(to[0] == 0x7A7A7A7A && !to[1]);
     PASSED();

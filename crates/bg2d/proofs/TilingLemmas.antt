@@ -1,4 +1,4 @@
-use Rattle.std.proofs.Common.{ℕ, Bool, true, false, ◌≡◌, ◌<◌, ◌≤◌, ◌+◌, ◌-◌, ◌*◌, ◌/◌, ◌%◌, ◌==◌, ◌⊎◌, inl, inr, List, get_or, drop, refl, sym, ◌∙◌, ap, subst, arith}
+use Rattle.std.proofs.Common.{ℕ, Bool, true, false, ◌≡◌, ◌<◌, ◌+◌, ◌-◌, ◌*◌, ◌/◌, ◌%◌, ◌==◌, ◌⊎◌, inl, inr, List, get_or, drop, refl, sym, ◌∙◌, ap, subst, arith}
 use Rattle.std.specs.List.{slice_range}
 use Rattle.std.proofs.lemmas.List.{get_or-take, get_or-drop}
 use Rattle.std.specs.Prelude.{if◌then◌else◌, ◌&&◌}
@@ -13,9 +13,8 @@ use Rattle.vram_banks.specs.Bases.{background_space, background_palette_space, m
 use Rattle.vram_banks.specs.Colours.{indexed_pixel, palette_colour, extended_colour, table_pixel}
 use Rattle.vram_banks.proofs.PaletteLemmas.{read_pixel, tabled_16, tabled_256}
 use Rattle.vram_banks.specs.Tiles.{nibble_at, flipped}
-use Rattle.vram_banks.proofs.NibbleLemmas.{nibble_there}
 use Rattle.bg2d.specs.TextPixels.{text_width, text_height, has_256, text_entry, text_index, text_colour, text_entry_pixel, text_pixel, palette_slot}
-use Rattle.bg2d.specs.rows.Tiling.{block_line, is_extended, IsBlockLine, IsKept, tile_row, tiled_pixel, AreEntries, ArePacked, AreIndices, ArePainted}
+use Rattle.bg2d.specs.rows.Tiling.{block_line, is_extended, AreBlockLines, IsBlockLine, IsKept, tile_row, tiled_pixel, AreEntries, AreIndices, ArePainted, AreTiles}
 
 -- ---- entries from bytes
 
@@ -25,9 +24,6 @@ even_base false field = refl
 
 even_line : (layer : TextLayer) (x y : ℕ) → block_line layer x y % 2 ≡ 0
 even_line layer x y = (let h = even_base (layer.engine == 0) (bits 27 3 layer.display) in omega (arith, h))
-
-pub width_at_most : (layer : TextLayer) → text_width layer ≤ 512
-width_at_most layer = grind arith
 
 -- an entry has two of its block's bytes
 pub entry_of_block : (v : Banks) (layer : TextLayer) (left x y : ℕ) (bytes : List ℕ) → left / 256 ≡ x / 256 → IsBlockLine v layer left y bytes →
@@ -49,36 +45,64 @@ entry_of_block v layer left x y bytes same read =
     ∙ ap (λ (n : ℕ). f here + 256 * n) high
     ∙ sym (ap (λ (n : ℕ). f n + 256 * f (n + 1)) down)
 
+wide_or_not : (layer : TextLayer) → (text_width layer ≡ 256) ⊎ (text_width layer ≡ 512)
+wide_or_not layer = grind arith
+
+record InBlocks (width first k : ℕ) : Type 0 where
+  block : 256 * ((first / 8 + k) % 64 / 32) % width / 256 ≡ (first + 8 * k) % width / 256
+  column : (first / 8 + k) % 64 % 32 ≡ (first + 8 * k) % width % 256 / 8
+
+in_blocks_256 : (first k : ℕ) → first % 8 ≡ 0 → first < 256 → k < 33 → InBlocks 256 first k
+in_blocks_256 first k whole within known = record { block = omega (arith, whole, within, known); column = omega (arith, whole, within, known) }
+
+in_blocks_512 : (first k : ℕ) → first % 8 ≡ 0 → first < 512 → k < 33 → InBlocks 512 first k
+in_blocks_512 first k whole within known = record { block = omega (arith, whole, within, known); column = omega (arith, whole, within, known) }
+
+in_blocks : (width first k : ℕ) → (width ≡ 256) ⊎ (width ≡ 512) → first % 8 ≡ 0 → first < width → k < 33 → InBlocks width first k
+in_blocks width first k h whole within known = (let P : ℕ → Type 0 = λ w. first < w → InBlocks w first k in elim h [
+  | inl e ↦ subst P (sym e) (λ less. in_blocks_256 first k whole less known) within
+  | inr e ↦ subst P (sym e) (λ less. in_blocks_512 first k whole less known) within
+])
+
+-- the entries of a row are among those of both blocks
+pub entry_of_blocks : (v : Banks) (layer : TextLayer) (first k y : ℕ) (bytes : List ℕ) → first % 8 ≡ 0 → first < text_width layer → k < 33 →
+    AreBlockLines v layer y bytes 2 →
+    number_at Half bytes (2 * ((first / 8 + k) % 64)) ≡ text_entry v layer ((first + 8 * k) % text_width layer) y
+entry_of_blocks v layer first k y bytes whole within known read =
+    let c : ℕ = (first / 8 + k) % 64 in
+    let h : ℕ = c / 32 in
+    let x : ℕ = (first + 8 * k) % text_width layer in
+    let t = in_blocks (text_width layer) first k (wide_or_not layer) whole within known in
+    let part : List ℕ = drop (64 * h) bytes in
+    let place : (i : ℕ) → get_or part i 0 ≡ get_or bytes (64 * h + i) 0 = λ i. get_or-drop (64 * h) bytes i 0 in
+    let column : c % 32 ≡ x % 256 / 8 = t.column in
+    let low : get_or bytes (2 * c) 0 ≡ get_or part (2 * (x % 256 / 8)) 0 =
+    ap (λ (n : ℕ). get_or bytes n 0) (omega (arith, column)) ∙ sym (place (2 * (x % 256 / 8))) in
+    let high : get_or bytes (2 * c + 1) 0 ≡ get_or part (2 * (x % 256 / 8) + 1) 0 =
+    ap (λ (n : ℕ). get_or bytes n 0) (omega (arith, column)) ∙ sym (place (2 * (x % 256 / 8) + 1)) in
+    ap (λ (n : ℕ). n + 256 * get_or bytes (2 * c + 1) 0) low
+    ∙ ap (λ (n : ℕ). get_or part (2 * (x % 256 / 8)) 0 + 256 * n) high
+    ∙ entry_of_block v layer (256 * h % text_width layer) x y part t.block (λ i lt. place i ∙ read h i (omega arith) lt)
+
 -- ---- indices from bytes
 
-index_16 : (v : Banks) (layer : TextLayer) (entry i y : ℕ) → has_256 layer ≡ false →
+pub index_16 : (v : Banks) (layer : TextLayer) (entry i y : ℕ) → has_256 layer ≡ false →
     text_index v layer entry i (flipped (bit 11 entry) (y % 8)) ≡ nibble_at i (vram_byte v (background_space layer.engine) (tile_row layer entry y + i / 2))
 unfolding text_index
 index_16 v layer entry i y h = rw h refl
 
-index_256 : (v : Banks) (layer : TextLayer) (entry i y : ℕ) → has_256 layer ≡ true →
+pub index_256 : (v : Banks) (layer : TextLayer) (entry i y : ℕ) → has_256 layer ≡ true →
     text_index v layer entry i (flipped (bit 11 entry) (y % 8)) ≡ vram_byte v (background_space layer.engine) (tile_row layer entry y + i)
 unfolding text_index
 index_256 v layer entry i y h = rw h refl
 
-pub indices_of_16 : (v : Banks) (layer : TextLayer) (y : ℕ) (entries bytes indices : List ℕ) → has_256 layer ≡ false →
-    ArePacked v layer y entries 4 bytes 33 →
-    ((j : ℕ) → get_or indices (2 * j) 0 ≡ get_or bytes j 0 % 16) → ((j : ℕ) → get_or indices (2 * j + 1) 0 ≡ get_or bytes j 0 / 16) →
-    AreIndices v layer y entries indices
-indices_of_16 v layer y entries bytes indices narrow packed low high k i known small =
-    nibble_there bytes indices k i low high
-    ∙ ap (nibble_at i) (packed k (i / 2) known (omega arith))
-    ∙ sym (index_16 v layer (get_or entries k 0) i y narrow)
-
 pub indices_of_256 : (v : Banks) (layer : TextLayer) (y : ℕ) (entries indices : List ℕ) → has_256 layer ≡ true →
-    ArePacked v layer y entries 8 indices 33 → AreIndices v layer y entries indices
+    ((k i : ℕ) → k < 33 → i < 8 → get_or indices (8 * k + i) 0 ≡ vram_byte v (background_space layer.engine) (tile_row layer (get_or entries k 0) y + i)) →
+    AreIndices v layer y entries indices
 indices_of_256 v layer y entries indices wide packed k i known small =
     packed k i known small ∙ sym (index_256 v layer (get_or entries k 0) i y wide)
 
 -- ---- a place of the row is a place in a tile
-
-wide_or_not : (layer : TextLayer) → (text_width layer ≡ 256) ⊎ (text_width layer ≡ 512)
-wide_or_not layer = grind arith
 
 pub flipped_below : (flip : Bool) (place : ℕ) → place < 8 → flipped flip place < 8
 flipped_below true place h = omega arith
@@ -157,19 +181,16 @@ painted_extended v palette layer entry at index h on e =
 
 -- by a table
 pub table_16 : (v : Banks) (palette : List ℕ) (layer : TextLayer) (entry index : ℕ) → has_256 layer ≡ false → index < 16 →
-    table_pixel (has_256 layer) palette (16 * bits 12 4 entry + index) ≡ indexed_pixel (text_colour v palette layer entry) index
+    table_pixel false palette (16 * bits 12 4 entry + index) ≡ indexed_pixel (text_colour v palette layer entry) index
 table_16 v palette layer entry index narrow small =
-    ap (λ (wide : Bool). table_pixel wide palette (16 * bits 12 4 entry + index)) narrow
-    ∙ tabled_16 palette (16 * bits 12 4 entry) index (omega arith) small
+    tabled_16 palette (16 * bits 12 4 entry) index (omega arith) small
     ∙ painted_16 v palette layer entry (16 * bits 12 4 entry) index narrow refl
 
 pub table_256 : (v : Banks) (palette : List ℕ) (layer : TextLayer) (entry index : ℕ) → has_256 layer ≡ true → is_extended layer ≡ false → index < 256 →
-    table_pixel (has_256 layer) palette (0 + index) ≡ indexed_pixel (text_colour v palette layer entry) index
+    table_pixel true palette (0 + index) ≡ indexed_pixel (text_colour v palette layer entry) index
 table_256 v palette layer entry index wide standard small =
     let off : bit 30 layer.display ≡ false = sym (ap (λ (w : Bool). w && bit 30 layer.display) wide) ∙ standard in
-    ap (λ (w : Bool). table_pixel w palette (0 + index)) wide
-    ∙ tabled_256 palette index small
-    ∙ painted_256 v palette layer entry index wide off
+    tabled_256 palette index small ∙ painted_256 v palette layer entry index wide off
 
 -- by an extended palette that was read
 pub kept_pixel : (v : Banks) (palette : List ℕ) (layer : TextLayer) (entry index : ℕ) (kept : KeptPalette) → is_extended layer ≡ true → index < 256 →
@@ -182,18 +203,27 @@ kept_pixel v palette layer entry index kept extended small read e =
     read_pixel v (background_palette_space layer.engine) kept.at index kept.bytes small (λ i within. read i within ∙ ap (λ (n : ℕ). f (n + i)) even)
     ∙ painted_extended v palette layer entry kept.at index both.0 both.1 e
 
--- the painted pixels, from the tile's left edge on, are those of the background
-pub painted_is_tiled : (v : Banks) (palette : List ℕ) (layer : TextLayer) (y fine x : ℕ) (entries indices pixels : List ℕ) → fine + x < 264 →
-    AreIndices v layer y entries indices → ArePainted v palette layer entries indices pixels 33 →
-    get_or pixels (fine + x) 0 ≡ tiled_pixel v palette layer y entries fine x
-painted_is_tiled v palette layer y fine x entries indices pixels small are painted =
-    let at : ℕ = fine + x in
-    let k : ℕ = at / 8 in
+-- pixels that were painted from indices are those of the tiles
+pub painted_tiles : (v : Banks) (palette : List ℕ) (layer : TextLayer) (y : ℕ) (entries indices pixels : List ℕ) →
+    AreIndices v layer y entries indices → ArePainted v palette layer entries indices pixels 33 → AreTiles v palette layer y entries pixels 33
+painted_tiles v palette layer y entries indices pixels are painted k i known small =
     let entry : ℕ = get_or entries k 0 in
-    let known : k < 33 = omega arith in
-    let place : at ≡ 8 * k + at % 8 = omega arith in
-    ap (λ (j : ℕ). get_or pixels j 0) place ∙ painted k (at % 8) known (omega arith)
-    ∙ ap (indexed_pixel (text_colour v palette layer entry)) (are k (flipped (bit 10 entry) (at % 8)) known (flipped_below (bit 10 entry) (at % 8) (omega arith)))
+    let place : i ≡ i % 8 = omega (arith, small) in
+    painted k i known small
+    ∙ ap (indexed_pixel (text_colour v palette layer entry)) (are k (flipped (bit 10 entry) i) known (flipped_below (bit 10 entry) i small))
+    ∙ ap (λ (n : ℕ). indexed_pixel (text_colour v palette layer entry) (text_index v layer entry (flipped (bit 10 entry) n) (flipped (bit 11 entry) (y % 8)))) place
+
+-- the pixels of tiles, from the first tile's left edge on, are those of the background
+pub tiles_are_tiled : (v : Banks) (palette : List ℕ) (layer : TextLayer) (y fine x : ℕ) (entries pixels : List ℕ) → fine + x < 264 →
+    AreTiles v palette layer y entries pixels 33 → get_or pixels (fine + x) 0 ≡ tiled_pixel v palette layer y entries fine x
+tiles_are_tiled v palette layer y fine x entries pixels small are =
+    let at : ℕ = fine + x in
+    let entry : ℕ = get_or entries (at / 8) 0 in
+    let place : at ≡ 8 * (at / 8) + at % 8 = omega arith in
+    let twice : at % 8 % 8 ≡ at % 8 = omega arith in
+    ap (λ (j : ℕ). get_or pixels j 0) place
+    ∙ are (at / 8) (at % 8) (omega arith) (omega arith)
+    ∙ ap (λ (n : ℕ). indexed_pixel (text_colour v palette layer entry) (text_index v layer entry (flipped (bit 10 entry) n) (flipped (bit 11 entry) (y % 8)))) twice
 
 pub index_of_range : (row : List ℕ) (from n i : ℕ) → i < n → get_or (slice_range row from (from + n)) i 0 ≡ get_or row (from + i) 0
 index_of_range row from n i lt = get_or-take (from + n - from) (drop from row) i 0 (omega arith) ∙ get_or-drop from row i 0

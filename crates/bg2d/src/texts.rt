@@ -4,15 +4,15 @@ ghost use Rattle.std.specs.Prelude.{◌≡◌, ◌<◌, ◌+◌, ◌*◌, ◌%�
 ghost use Rattle.ds_base.specs.Bits.{bits, bit};
 ghost use Rattle.ds_base.specs.Numbers.{number_at};
 ghost use Rattle.ds_base.specs.declared.memories.Width.TheVariants.{Half};
-ghost use Rattle.bg2d.specs.TextPixels.{text_width, text_height, has_256, palette_slot, text_entry, text_colour, text_pixel};
-ghost use Rattle.vram_banks.specs.Colours.{indexed_pixel, HasForm};
+ghost use Rattle.bg2d.specs.TextPixels.{text_width, text_height, has_256, palette_slot, text_entry, text_colour, text_entry_pixel, text_pixel};
+ghost use Rattle.vram_banks.specs.Colours.{indexed_pixel, HasForm, IsTable};
 ghost use Rattle.vram_banks.specs.Tiles.{flipped};
-ghost use Rattle.bg2d.specs.rows.Tiling.{block_line, is_extended, tile_row, AreEntries, IsBlockLine, ArePacked, AreIndices, AreNarrow, ArePainted, IsTable, IsKept};
+ghost use Rattle.bg2d.specs.rows.Tiling.{block_line, is_extended, tile_row, AreBlockLines, AreEntries, IsBlockLine, AreIndices, ArePainted, AreTiles, IsKept};
 
 use crate::layers::TextLayer;
 use vram_banks::{
-    Row, Vram, background_palette_space, background_space, copy_eight, copy_four, fill_table,
-    flipped, map_base, paint_by_table, paint_standard, tile_base, unpack,
+    Row, Vram, background_palette_space, background_space, copy_eight, fill_table, flipped,
+    map_base, paint_by_table, paint_nibbles, paint_standard, row_word, tile_base,
 };
 
 /// How many tiles a row touches: 256 pixels, and a tile's part at either end.
@@ -49,69 +49,67 @@ fn block_line(layer: &TextLayer, x: u32, y: u32) -> u32
 }
 
 /// The entries that show line y of the background in the block of column x, which are 64 bytes.
-fn read_block(vram: &Vram, layer: &TextLayer, x: u32, y: u32, into: &mut [u8; 64])
+fn read_block(vram: &Vram, layer: &TextLayer, x: u32, y: u32, into: &mut [u8])
     requires across { x < 512 }
     requires down { y < 512 }
+    requires room { length into.old ≡ 64 }
     ensures { IsBlockLine vram.now layer.now x y into.new }
 {
     let at = block_line(layer, x, y);
     vram.row(background_space(layer.engine), at, into);
 }
 
-/// The same for the right block, where there is one.
-fn read_right_block(vram: &Vram, layer: &TextLayer, y: u32, into: &mut [u8; 64])
-    requires down { y < 512 }
-    ensures { 256 < text_width layer.now → IsBlockLine vram.now layer.now 256 y into.new }
+/// The same of the left block and of the right one, or of the left one again where there is no other.
+fn read_blocks(vram: &Vram, layer: &TextLayer, y: u32, into: &mut [u8; 128])
+    requires { y < 512 }
+    ensures { AreBlockLines vram.now layer.now y into.new 2 }
 {
-    if text_width(layer) > 256 {
-        read_block(vram, layer, 256, y, into);
+    let width = text_width(layer);
+    for h in 0..2usize {
+        let x = 256 * h as u32 % width;
+        read_block(vram, layer, x, y, &mut into[64 * h..64 * h + 64]);
     }
 }
 
-/// Number c of a block's entries on a line.
-fn block_entry(block: &[u8; 64], c: usize) -> u16
-    requires { c < 32 }
-    ensures { result ≡ number_at Half block.now (2 * c) }
+/// Number c of the entries of both blocks on a line.
+#[inline(always)]
+fn block_entry(blocks: &[u8; 128], c: usize) -> u16
+    requires { c < 64 }
+    ensures { result ≡ number_at Half blocks.now (2 * c) }
 {
-    u16::from_le_bytes([block[2 * c], block[2 * c + 1]])
+    u16::from_le_bytes([blocks[2 * c], blocks[2 * c + 1]])
 }
 
-/// The entry of a point of the background, from those of both blocks on its line. The other arguments are there for the contract.
+/// The entry of tile k of a row, from those of both blocks on its line. The other arguments are there for the contract.
+#[inline(always)]
 fn entry_among(
     vram: &Vram,
     layer: &TextLayer,
-    left: &[u8; 64],
-    right: &[u8; 64],
-    x: u32,
+    blocks: &[u8; 128],
+    first: u32,
     y: u32,
+    k: usize,
 ) -> u16
-    requires left { IsBlockLine vram.now layer.now 0 y left.now }
-    requires right { 256 < text_width layer.now → IsBlockLine vram.now layer.now 256 y right.now }
-    requires across { x < text_width layer.now }
-    ensures { result ≡ text_entry vram.now layer.now x y }
+    requires blocks { AreBlockLines vram.now layer.now y blocks.now 2 }
+    requires across { first < text_width layer.now }
+    requires whole { first % 8 ≡ 0 }
+    requires known { k < 33 }
+    ensures { result ≡ text_entry vram.now layer.now ((first + 8 * k) % text_width layer.now) y }
 {
-    let column = (x % 256 / 8) as usize;
-    if x < 256 {
-        block_entry(left, column)
-    } else {
-        block_entry(right, column)
-    }
+    block_entry(blocks, (first as usize / 8 + k) % 64)
 }
 
 /// The entries of the tiles of a row, from the tile on whose left edge is `first`.
 fn text_entries(vram: &Vram, layer: &TextLayer, first: u32, y: u32, into: &mut [u16; TILES])
-    requires across { first < 512 }
+    requires across { first < text_width layer.now }
+    requires whole { first % 8 ≡ 0 }
     requires down { y < 512 }
     ensures { AreEntries vram.now layer.now first y into.new 33 }
 {
-    let mut left = [0; 64];
-    let mut right = [0; 64];
-    read_block(vram, layer, 0, y, &mut left);
-    read_right_block(vram, layer, y, &mut right);
-    let width = text_width(layer);
+    let mut blocks = [0; 128];
+    read_blocks(vram, layer, y, &mut blocks);
     for k in 0..TILES {
-        let x = (first + 8 * k as u32) % width;
-        into[k] = entry_among(vram, layer, &left, &right, x, y);
+        into[k] = entry_among(vram, layer, &blocks, first, y, k);
     }
 }
 
@@ -137,45 +135,15 @@ fn has_256(layer: &TextLayer) -> bool
     (layer.control >> 7) % 2 == 1
 }
 
-/// The rows of tiles of 16 colours, four bytes each.
-fn pack(vram: &Vram, layer: &TextLayer, entries: &[u16; TILES], y: u32, into: &mut [u8; 132])
-    ensures { ArePacked vram.now layer.now y entries.now 4 into.new 33 }
-{
-    let space = background_space(layer.engine);
-    for k in 0..TILES {
-        let at = tile_row(layer, entries[k], y);
-        copy_four(vram, space, at, &mut into[4 * k..4 * k + 4]);
-    }
-}
-
 /// The rows of tiles of 256 colours, eight bytes each, which are their indices.
 fn copy_rows(vram: &Vram, layer: &TextLayer, entries: &[u16; TILES], y: u32, into: &mut [u8; 264])
-    ensures { ArePacked vram.now layer.now y entries.now 8 into.new 33 }
+    requires { has_256 layer.now ≡ true }
+    ensures { AreIndices vram.now layer.now y entries.now into.new }
 {
     let space = background_space(layer.engine);
     for k in 0..TILES {
         let at = tile_row(layer, entries[k], y);
         copy_eight(vram, space, at, &mut into[8 * k..8 * k + 8]);
-    }
-}
-
-/// The indices of the tiles' rows.
-fn text_indices(
-    vram: &Vram,
-    layer: &TextLayer,
-    entries: &[u16; TILES],
-    y: u32,
-    into: &mut [u8; 264],
-)
-    ensures value { AreIndices vram.now layer.now y entries.now into.new }
-    ensures narrow { AreNarrow layer.now into.new }
-{
-    if has_256(layer) {
-        copy_rows(vram, layer, entries, y, into);
-    } else {
-        let mut packed = [0; 132];
-        pack(vram, layer, entries, y, &mut packed);
-        unpack(&packed, into);
     }
 }
 
@@ -205,6 +173,55 @@ fn flips_across(entry: u16) -> bool
     (entry >> 10) % 2 == 1
 }
 
+/// The pixels of a tile of 16 colours on line y of the background, by those of the standard palette's colours.
+fn paint_narrow_tile(
+    vram: &Vram,
+    palette: &[u8],
+    table: &[u16; 256],
+    layer: &TextLayer,
+    entry: u16,
+    y: u32,
+    into: &mut [u16],
+)
+    requires narrow { has_256 layer.now ≡ false }
+    requires table { IsTable false palette.now table.now }
+    requires room { length into.old ≡ 8 }
+    ensures { (i : ℕ) → i < 8 → slice_index into.new i ≡ text_entry_pixel vram.now palette.now layer.now entry i y }
+{
+    let at = tile_row(layer, entry, y);
+    let word = row_word(vram, background_space(layer.engine), at);
+    let start = 16 * (entry >> 12) as usize;
+    paint_nibbles(table, start, flips_across(entry), word, into);
+}
+
+/// The pixels of all tiles of a row, of 16 colours.
+fn paint_narrow(
+    vram: &Vram,
+    palette: &[u8],
+    layer: &TextLayer,
+    entries: &[u16; TILES],
+    y: u32,
+    into: &mut [u16; 264],
+)
+    requires colours { length palette.now ≡ 512 }
+    requires narrow { has_256 layer.now ≡ false }
+    ensures { AreTiles vram.now palette.now layer.now y entries.now into.new 33 }
+{
+    let mut table = [0; 256];
+    fill_table(palette, false, &mut table);
+    for k in 0..TILES {
+        paint_narrow_tile(
+            vram,
+            palette,
+            &table,
+            layer,
+            entries[k],
+            y,
+            &mut into[8 * k..8 * k + 8],
+        );
+    }
+}
+
 /// The pixels of a tile's row, from its eight indices, by those of the standard palette's colours. `vram` and `palette` are there for the contract.
 fn paint_tile(
     vram: &Vram,
@@ -215,23 +232,18 @@ fn paint_tile(
     indices: &[u8],
     into: &mut [u16],
 )
+    requires wide { has_256 layer.now ≡ true }
     requires standard { is_extended layer.now ≡ false }
-    requires table { IsTable layer.now palette.now table.now }
+    requires table { IsTable true palette.now table.now }
     requires indices { length indices.now ≡ 8 }
     requires room { length into.old ≡ 8 }
-    requires narrow { has_256 layer.now ≡ false → (i : ℕ) → i < 8 → slice_index indices.now i < 16 }
     ensures { (i : ℕ) → i < 8 → slice_index into.new i
         ≡ indexed_pixel (text_colour vram.now palette.now layer.now entry) (slice_index indices.now (flipped (bit 10 entry) i)) }
 {
-    let flip = flips_across(entry);
-    if has_256(layer) {
-        paint_by_table(table, 0, flip, indices, into);
-    } else {
-        paint_by_table(table, 16 * (entry >> 12) as usize, flip, indices, into);
-    }
+    paint_by_table(table, 0, flips_across(entry), indices, into);
 }
 
-/// The pixels of all tiles of a row, by the standard palette.
+/// The pixels of all tiles of a row, of 256 colours of the standard palette.
 fn paint_by_standard(
     vram: &Vram,
     palette: &[u8],
@@ -240,13 +252,13 @@ fn paint_by_standard(
     indices: &[u8; 264],
     into: &mut [u16; 264],
 )
+    requires wide { has_256 layer.now ≡ true }
     requires standard { is_extended layer.now ≡ false }
     requires colours { length palette.now ≡ 512 }
-    requires narrow { AreNarrow layer.now indices.now }
     ensures { ArePainted vram.now palette.now layer.now entries.now indices.now into.new 33 }
 {
     let mut table = [0; 256];
-    fill_table(palette, has_256(layer), &mut table);
+    fill_table(palette, true, &mut table);
     for k in 0..TILES {
         paint_tile(
             vram,
@@ -341,7 +353,7 @@ fn paint_by_extended(
     }
 }
 
-/// The pixels of all tiles of a row.
+/// The pixels of all tiles of a row, from their indices.
 fn paint(
     vram: &Vram,
     palette: &[u8],
@@ -350,14 +362,51 @@ fn paint(
     indices: &[u8; 264],
     into: &mut [u16; 264],
 )
+    requires wide { has_256 layer.now ≡ true }
     requires colours { length palette.now ≡ 512 }
-    requires narrow { AreNarrow layer.now indices.now }
     ensures { ArePainted vram.now palette.now layer.now entries.now indices.now into.new 33 }
 {
     if is_extended(layer) {
         paint_by_extended(vram, palette, layer, entries, indices, into);
     } else {
         paint_by_standard(vram, palette, layer, entries, indices, into);
+    }
+}
+
+/// The pixels of all tiles of a row, of 256 colours.
+fn paint_wide(
+    vram: &Vram,
+    palette: &[u8],
+    layer: &TextLayer,
+    entries: &[u16; TILES],
+    y: u32,
+    into: &mut [u16; 264],
+)
+    requires colours { length palette.now ≡ 512 }
+    requires wide { has_256 layer.now ≡ true }
+    ensures { AreTiles vram.now palette.now layer.now y entries.now into.new 33 }
+{
+    let mut indices = [0; 264];
+    copy_rows(vram, layer, entries, y, &mut indices);
+    paint(vram, palette, layer, entries, &indices, into);
+}
+
+/// The pixels of all tiles of a row.
+fn paint_tiles(
+    vram: &Vram,
+    palette: &[u8],
+    layer: &TextLayer,
+    entries: &[u16; TILES],
+    y: u32,
+    into: &mut [u16; 264],
+)
+    requires { length palette.now ≡ 512 }
+    ensures { AreTiles vram.now palette.now layer.now y entries.now into.new 33 }
+{
+    if has_256(layer) {
+        paint_wide(vram, palette, layer, entries, y, into);
+    } else {
+        paint_narrow(vram, palette, layer, entries, y, into);
     }
 }
 
@@ -381,10 +430,8 @@ pub fn text_row(vram: &Vram, palette: &[u8], layer: &TextLayer, line: u8, into: 
     let first = layer.across as u32 % text_width(layer) / 8 * 8;
     let mut entries = [0; TILES];
     text_entries(vram, layer, first, y, &mut entries);
-    let mut indices = [0; 264];
-    text_indices(vram, layer, &entries, y, &mut indices);
     let mut pixels = [0; 264];
-    paint(vram, palette, layer, &entries, &indices, &mut pixels);
+    paint_tiles(vram, palette, layer, &entries, y, &mut pixels);
     let fine = layer.across as usize % 8;
     clip(&pixels, fine, &mut into.pixels);
 }

@@ -9,7 +9,8 @@ use Rattle.obj2d.specs.declared.objects.Object.{Object}
 use Rattle.obj2d.specs.Attributes.{object_at, turn_at, group, width, height, box_width, is_affine, flips_across, flips_down}
 use Rattle.obj2d.specs.Places.{across, down, is_drawn, mirrored, affine_across, affine_down}
 use Rattle.obj2d.specs.ObjectPixels.{object_index, object_colour, place_pixel, turned_pixel, flat_pixel, box_pixel, pixel_of}
-use Rattle.obj2d.specs.ObjectLayer.{SeenObject, IsLayerPixel, IsPixel, seen_at}
+use Rattle.obj2d.specs.ObjectLayer.{SeenObject, seen_at}
+use Rattle.obj2d.specs.ObjectLaws.{IsLayerPixel, IsPixel}
 
 -- A pixel has bit 15 set, or is 0.
 

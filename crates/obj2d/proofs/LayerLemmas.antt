@@ -1,7 +1,11 @@
-use Rattle.std.proofs.Common.{ℕ, zero, suc, Bool, true, ◌≡◌, ◌≢◌, ◌<◌, ◌≤◌, ◌+◌, ◌⊎◌, ◌==◌, inl, inr, refl, sym, ◌∙◌, subst, arith}
+use Rattle.std.proofs.Common.{ℕ, zero, suc, Bool, true, false, ◌≡◌, ◌≢◌, ◌<◌, ◌≤◌, ◌+◌, ◌⊎◌, ◌==◌, inl, inr, List, length, get_or, set, refl, sym, ◌∙◌, ap, subst, arith}
+use Rattle.std.specs.Prelude.{slice_set}
+use Rattle.std.proofs.lemmas.List.{get_or-set_same, get_or-set_other}
 use Rattle.std.proofs.lemmas.Bool.{cases_eq, cases_lt, false≢true}
+use Rattle.obj2d.specs.declared.layers.ObjectLanes.{ObjectLanes}
 use Rattle.obj2d.specs.declared.layers.ObjectPixel.{ObjectPixel}
-use Rattle.obj2d.specs.ObjectLayer.{SeenObject, IsBefore, IsFrontObject, IsOf, IsTransparent, IsNone, IsInWindow, IsLayerPixel, with_object, pixel_below}
+use Rattle.obj2d.specs.ObjectLayer.{SeenObject, with_object, pixel_below}
+use Rattle.obj2d.specs.ObjectLaws.{ArePresent, lanes_pixel, IsBefore, IsFrontObject, IsOf, IsTransparent, IsNone, IsInWindow, IsLayerPixel}
 
 -- ---- what one more object leaves
 
@@ -22,6 +26,56 @@ placed_before s p opaque shown h = grind (arith, opaque, shown, h)
 
 placed_behind : (s : SeenObject) (p : ObjectPixel) → s.colour ≢ 0 → s.mode ≢ 2 → p.colour ≢ 0 → p.priority ≤ s.priority → with_object s p ≡ p
 placed_behind s p opaque shown full h = grind (arith, opaque, shown, full, h)
+
+-- where a pixel is seen with one more object, its priority is that object's, or it was seen and has the priority that it had
+seen_priority : (s : SeenObject) (p : ObjectPixel) → (with_object s p).colour ≢ 0 →
+    ((with_object s p).priority ≡ s.priority) ⊎ ((p.colour ≢ 0) × ((with_object s p).priority ≡ p.priority))
+seen_priority s p =
+    let P : ObjectPixel → Type 0 = λ q. q.colour ≢ 0 → (q.priority ≡ s.priority) ⊎ ((p.colour ≢ 0) × (q.priority ≡ p.priority)) in
+    elim (cases_eq s.colour 0) [
+      | inl clear ↦ subst P (sym (unseen s p clear)) (λ full. inr (full, refl))
+      | inr opaque ↦
+          elim (cases_eq s.mode 2) [
+            | inl window ↦ subst P (sym (marked s p opaque window)) (λ full. inr (full, refl))
+            | inr shown ↦
+                elim (cases_eq p.colour 0) [
+                  | inl empty ↦ subst P (sym (placed_first s p opaque shown empty)) (λ full. inl refl)
+                  | inr there ↦
+                      elim (cases_lt s.priority p.priority) [
+                        | inl lower ↦ subst P (sym (placed_before s p opaque shown lower)) (λ full. inl refl)
+                        | inr le ↦ subst P (sym (placed_behind s p opaque shown there le)) (λ full. inr (full, refl))
+                      ]
+                ]
+          ]
+    ]
+
+-- so a row with one more object has marks of its priorities, where that object's is marked too
+pub present_more : (seen : ℕ → SeenObject) (before after : ObjectLanes) (present : List Bool) (q : ℕ) → q < length present →
+    ((x : ℕ) → (seen x).priority ≡ q) → ((x : ℕ) → x < 256 → lanes_pixel after x ≡ with_object (seen x) (lanes_pixel before x)) →
+    ArePresent before present → ArePresent after (slice_set present q true)
+present_more seen before after present q known rank laid are x small full =
+    let s : SeenObject = seen x in
+    let p : ObjectPixel = lanes_pixel before x in
+    let e = laid x small in
+    let colour : get_or after.colours x 0 ≡ (with_object s p).colour = ap (λ (o : ObjectPixel). o.colour) e in
+    let priority : get_or after.priorities x 0 ≡ (with_object s p).priority = ap (λ (o : ObjectPixel). o.priority) e in
+    elim (seen_priority s p (λ z. full (colour ∙ z))) [
+      | inl same ↦
+          ap (λ (n : ℕ). get_or (set present q true) n false) (priority ∙ same ∙ rank x)
+          ∙ get_or-set_same present q true false known
+      | inr was ↦
+          (let old : get_or after.priorities x 0 ≡ get_or before.priorities x 0 = priority ∙ was.1 in
+          let there : get_or present (get_or before.priorities x 0) false ≡ true = are x small was.0 in
+          elim (cases_eq (get_or before.priorities x 0) q) [
+            | inl same ↦
+                ap (λ (n : ℕ). get_or (set present q true) n false) (old ∙ same)
+                ∙ get_or-set_same present q true false known
+            | inr other ↦
+                ap (λ (n : ℕ). get_or (set present q true) n false) old
+                ∙ get_or-set_other present q (get_or before.priorities x 0) true false other
+                ∙ there
+          ])
+    ]
 
 -- ---- the first object of one more
 

@@ -2,4 +2,3 @@ pub mod FormLemmas
 pub mod LayerLemmas
 pub mod OffLemmas
 pub mod StripLemmas
-pub mod WordLemmas

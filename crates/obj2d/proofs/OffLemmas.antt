@@ -1,4 +1,5 @@
-use Rattle.std.proofs.Common.{ℕ, zero, suc, Bool, false, ◌≡◌, ◌<◌, ◌==◌, ◌&&◌, not, nat_lt, List, refl, ◌∙◌, ap, arith}
+use Rattle.std.proofs.Common.{ℕ, zero, suc, Bool, true, false, ◌≡◌, ◌<◌, ◌≤◌, ◌+◌, ◌==◌, ◌&&◌, not, nat_lt, List, inl, inr, refl, sym, ◌∙◌, ap, subst, arith}
+use Rattle.std.proofs.lemmas.Bool.{cases_eq}
 use Rattle.ds_base.specs.Bits.{bit}
 use Rattle.ds_base.proofs.Choices.{and_false}
 use Rattle.vram_banks.specs.Cells.{Banks}
@@ -47,3 +48,30 @@ all_small seen (suc n) h = one_small (seen n) (pixel_below seen n) (h n) (all_sm
 
 pub object_small : (v : Banks) (palette oam : List ℕ) (display : Display) (line x : ℕ) → (object_pixel v palette oam display line x).priority < 4
 object_small v palette oam display line x = all_small (seen_at v palette oam display line x) 128 (seen_small v palette oam display line x)
+
+pub off_not_drawn : (control : ℕ) (o : Object) (line : ℕ) → is_off o ≡ true → is_drawn control o line ≡ false
+off_not_drawn control o line off =
+    ap (λ (b : Bool). not (mode o == 3) && (bit 12 control && (not b && nat_lt (down o line) (box_height o)))) off
+    ∙ ap (λ (b : Bool). not (mode o == 3) && b) (and_false (bit 12 control))
+    ∙ and_false (not (mode o == 3))
+
+-- where four objects are off, none of them is drawn
+pub four_off : (oam : List ℕ) (control line n : ℕ) → is_off (object_at oam n) ≡ true → is_off (object_at oam (n + 1)) ≡ true →
+    is_off (object_at oam (n + 2)) ≡ true → is_off (object_at oam (n + 3)) ≡ true →
+    (m : ℕ) → n ≤ m → m < n + 4 → is_drawn control (object_at oam m) line ≡ false
+four_off oam control line n h0 h1 h2 h3 m from to =
+    let P : ℕ → Type 0 = λ k. is_drawn control (object_at oam k) line ≡ false in
+    elim (cases_eq m n) [
+      | inl e ↦ subst P (sym e) (off_not_drawn control (object_at oam n) line h0)
+      | inr a ↦
+          elim (cases_eq m (n + 1)) [
+            | inl e ↦ subst P (sym e) (off_not_drawn control (object_at oam (n + 1)) line h1)
+            | inr b ↦
+                elim (cases_eq m (n + 2)) [
+                  | inl e ↦ subst P (sym e) (off_not_drawn control (object_at oam (n + 2)) line h2)
+                  | inr c ↦
+                      (let e : m ≡ n + 3 = omega (arith, from, to) in
+                      subst P (sym e) (off_not_drawn control (object_at oam (n + 3)) line h3))
+                ]
+          ]
+    ]

@@ -2,9 +2,10 @@ use Rattle.std.proofs.Common.{ℕ, Bool, true, false, ◌≡◌, ◌≢◌, ◌<
 use Rattle.std.specs.Prelude.{nat_lt, if◌then◌else◌}
 use Rattle.std.proofs.lemmas.Bool.{cases_eq, cases_lt, cases_Bool, agree_below_at, eqb-true, ltb-true, lt-ltb, le-ltb}
 use Rattle.vram_banks.specs.Cells.{Banks, vram_byte}
-use Rattle.vram_banks.specs.Colours.{indexed_pixel, palette_colour, extended_colour}
+use Rattle.ds_base.specs.declared.memories.Space.{Space}
+use Rattle.vram_banks.specs.Colours.{indexed_pixel, palette_colour, extended_colour, IsTable}
 use Rattle.vram_banks.specs.Tiles.{nibble_at, flipped}
-use Rattle.vram_banks.proofs.NibbleLemmas.{nibble_there}
+use Rattle.vram_banks.proofs.PaletteLemmas.{read_pixel, tabled_16, tabled_256}
 use Rattle.obj2d.specs.declared.layers.ObjectPixel.{ObjectPixel}
 use Rattle.obj2d.specs.declared.objects.Display.{Display}
 use Rattle.obj2d.specs.declared.objects.Object.{Object}
@@ -12,8 +13,8 @@ use Rattle.obj2d.specs.Attributes.{object_at, turn_at, group, widths, shape, obj
 use Rattle.obj2d.specs.Places.{across, down, is_drawn, mirrored}
 use Rattle.obj2d.specs.ObjectPixels.{object_space, object_palette_space, object_index, object_colour, point_pixel, flat_pixel, turned_pixel, box_pixel, pixel_of}
 use Rattle.obj2d.specs.ObjectLayer.{SeenObject, with_object, seen_at}
-use Rattle.obj2d.specs.rows.Strips.{object_tile_row, mirrored_tile, AreTileRows, AreLineIndices, AreObjectPixels, AreBox, strip_seen, IsLaid}
-use Rattle.obj2d.specs.rows.Words.{span_first, span_start, span_count}
+use Rattle.obj2d.specs.rows.Strips.{object_tile_row, mirrored_tile, object_colours, AreObjectPixels, AreBox, IsColoured, strip_seen, IsLaid}
+use Rattle.obj2d.specs.rows.Spans.{span_first, span_start, span_count}
 use Rattle.obj2d.proofs.LayerLemmas.{unseen}
 
 -- ---- addresses
@@ -48,29 +49,6 @@ index_256 : (v : Banks) (display : Display) (o : Object) (x y : ℕ) → object_
 unfolding object_index
 index_256 v display o x y h = rw h refl
 
-pub indices_of_16 : (v : Banks) (display : Display) (o : Object) (y : ℕ) (bytes indices : List ℕ) → object_has_256 o ≡ false →
-    AreTileRows v display o y 4 bytes (width o / 8) →
-    ((j : ℕ) → get_or indices (2 * j) 0 ≡ get_or bytes j 0 % 16) → ((j : ℕ) → get_or indices (2 * j + 1) 0 ≡ get_or bytes j 0 / 16) →
-    AreLineIndices v display o y indices
-indices_of_16 v display o y bytes indices narrow packed low high x small =
-    let whole = width_whole o in
-    let place : x ≡ 8 * (x / 8) + x % 8 = omega arith in
-    let known : x / 8 < width o / 8 = omega (arith, whole, small) in
-    ap (λ (j : ℕ). get_or indices j 0) place
-    ∙ nibble_there bytes indices (x / 8) (x % 8) low high
-    ∙ ap (nibble_at (x % 8)) (packed (x / 8) (x % 8 / 2) known (omega arith))
-    ∙ sym (index_16 v display o x y narrow)
-
-pub indices_of_256 : (v : Banks) (display : Display) (o : Object) (y : ℕ) (indices : List ℕ) → object_has_256 o ≡ true →
-    AreTileRows v display o y 8 indices (width o / 8) → AreLineIndices v display o y indices
-indices_of_256 v display o y indices wide packed x small =
-    let whole = width_whole o in
-    let place : x ≡ 8 * (x / 8) + x % 8 = omega arith in
-    let known : x / 8 < width o / 8 = omega (arith, whole, small) in
-    ap (λ (j : ℕ). get_or indices j 0) place
-    ∙ packed (x / 8) (x % 8) known (omega arith)
-    ∙ sym (index_256 v display o x y wide)
-
 -- ---- painting
 
 same_pixel : (f g : ℕ → ℕ) (index : ℕ) → f index ≡ g index → indexed_pixel f index ≡ indexed_pixel g index
@@ -99,6 +77,79 @@ painted_extended v palette display o at index h on e =
     same_pixel (extended_colour v (object_palette_space display.engine) at) (object_colour v palette display o) index
     (ap (λ (a : ℕ). extended_colour v (object_palette_space display.engine) a index) e ∙ (rw (h, on) refl))
 
+-- ---- by a table
+
+pub flipped_below : (flip : Bool) (i : ℕ) → i < 8 → flipped flip i < 8
+flipped_below true i h = omega arith
+flipped_below false i h = h
+
+pub coloured_16 : (v : Banks) (palette : List ℕ) (display : Display) (o : Object) (table : List ℕ) (start : ℕ) → object_has_256 o ≡ false →
+    start ≡ 16 * palette_number o → IsTable false palette table → IsColoured v palette display o table start
+coloured_16 v palette display o table start narrow e tabled index below =
+    let sixteen : object_colours o ≡ 16 = rw narrow refl in
+    let small : index < 16 = omega (arith, below, sixteen) in
+    tabled (start + index) (omega (arith, e, small))
+    ∙ tabled_16 palette start index (omega (arith, e)) small
+    ∙ painted_16 v palette display o start index narrow e
+
+pub coloured_256 : (v : Banks) (palette : List ℕ) (display : Display) (o : Object) (table : List ℕ) → object_has_256 o ≡ true →
+    (display.control / 2 ^ 31 % 2 == 1) ≡ false → IsTable true palette table → IsColoured v palette display o table 0
+coloured_256 v palette display o table wide off tabled index below =
+    let all : object_colours o ≡ 256 = rw wide refl in
+    let small : index < 256 = omega (arith, below, all) in
+    tabled (0 + index) (omega (arith, small)) ∙ tabled_256 palette index small ∙ painted_256 v palette display o index wide off
+
+pub coloured_extended : (v : Banks) (palette : List ℕ) (display : Display) (o : Object) (bytes table : List ℕ) (at : ℕ) → object_has_256 o ≡ true →
+    (display.control / 2 ^ 31 % 2 == 1) ≡ true → at ≡ 512 * palette_number o →
+    ((i : ℕ) → i < 512 → get_or bytes i 0 ≡ vram_byte v (object_palette_space display.engine) (at + i)) →
+    IsTable true bytes table → IsColoured v palette display o table 0
+coloured_extended v palette display o bytes table at wide on e read tabled index below =
+    let all : object_colours o ≡ 256 = rw wide refl in
+    let small : index < 256 = omega (arith, below, all) in
+    let space : Space = object_palette_space display.engine in
+    let even : at ≡ at - at % 2 = omega (arith, e) in
+    tabled (0 + index) (omega (arith, small))
+    ∙ tabled_256 bytes index small
+    ∙ read_pixel v space at index bytes small (λ i within. read i within ∙ ap (λ (n : ℕ). vram_byte v space (n + i)) even)
+    ∙ painted_extended v palette display o at index wide on e
+
+-- a place of a tile's row is a point of the object
+across_tile : (tx j : ℕ) → j < 8 → (8 * tx + j) % 8 ≡ j
+across_tile tx j h = omega (arith, h)
+
+tile_across : (tx j : ℕ) → j < 8 → (8 * tx + j) / 8 ≡ tx
+tile_across tx j h = omega (arith, h)
+
+pub narrow_point : (v : Banks) (palette : List ℕ) (display : Display) (o : Object) (table : List ℕ) (start at y tx j index : ℕ) → object_has_256 o ≡ false →
+    IsColoured v palette display o table start → at ≡ object_tile_row display o y tx → j < 8 → index < 16 →
+    index ≡ nibble_at j (vram_byte v (object_space display.engine) (at + j / 2)) →
+    get_or table (start + index) 0 ≡ point_pixel v palette display o (8 * tx + j) y
+narrow_point v palette display o table start at y tx j index narrow coloured place below small nibble =
+    let sixteen : object_colours o ≡ 16 = rw narrow refl in
+    let byte : ℕ → ℕ → ℕ → ℕ = λ t i h. nibble_at i (vram_byte v (object_space display.engine) (object_tile_row display o y t + h / 2)) in
+    let same : index ≡ object_index v display o (8 * tx + j) y =
+    nibble
+    ∙ ap (λ (a : ℕ). nibble_at j (vram_byte v (object_space display.engine) (a + j / 2))) place
+    ∙ ap (λ (t : ℕ). byte t j j) (sym (tile_across tx j below))
+    ∙ ap (λ (i : ℕ). byte ((8 * tx + j) / 8) i i) (sym (across_tile tx j below))
+    ∙ sym (index_16 v display o (8 * tx + j) y narrow) in
+    coloured index (omega (arith, small, sixteen)) ∙ ap (indexed_pixel (object_colour v palette display o)) same
+
+pub wide_point : (v : Banks) (palette : List ℕ) (display : Display) (o : Object) (table : List ℕ) (at y tx j index : ℕ) → object_has_256 o ≡ true →
+    IsColoured v palette display o table 0 → at ≡ object_tile_row display o y tx → j < 8 → index < 256 →
+    index ≡ vram_byte v (object_space display.engine) (at + j) →
+    get_or table (0 + index) 0 ≡ point_pixel v palette display o (8 * tx + j) y
+wide_point v palette display o table at y tx j index wide coloured place below small there =
+    let all : object_colours o ≡ 256 = rw wide refl in
+    let byte : ℕ → ℕ → ℕ = λ t i. vram_byte v (object_space display.engine) (object_tile_row display o y t + i) in
+    let same : index ≡ object_index v display o (8 * tx + j) y =
+    there
+    ∙ ap (λ (a : ℕ). vram_byte v (object_space display.engine) (a + j)) place
+    ∙ ap (λ (t : ℕ). byte t j) (sym (tile_across tx j below))
+    ∙ ap (λ (i : ℕ). byte ((8 * tx + j) / 8) i) (sym (across_tile tx j below))
+    ∙ sym (index_256 v display o (8 * tx + j) y wide) in
+    coloured index (omega (arith, small, all)) ∙ ap (indexed_pixel (object_colour v palette display o)) same
+
 pub on_by : (n : ℕ) → n ≡ 1 → (n == 1) ≡ true
 on_by n h = rw h refl
 
@@ -111,22 +162,16 @@ mirrored_place : (flip : Bool) (count x : ℕ) → count % 8 ≡ 0 → x < count
 mirrored_place true count x whole small = omega arith
 mirrored_place false count x whole small = omega arith
 
-mirrored_below : (flip : Bool) (count x : ℕ) → x < count → mirrored flip count x < count
-mirrored_below true count x small = omega arith
-mirrored_below false count x small = small
-
-pub painted_is_flat : (v : Banks) (palette : List ℕ) (display : Display) (o : Object) (line : ℕ) (indices pixels : List ℕ) → AreLineIndices v display o line indices →
-    AreObjectPixels v palette display o indices pixels (width o / 8) → (x : ℕ) → x < width o →
+pub painted_is_flat : (v : Banks) (palette : List ℕ) (display : Display) (o : Object) (line : ℕ) (pixels : List ℕ) →
+    AreObjectPixels v palette display o line pixels (width o / 8) → (x : ℕ) → x < width o →
     get_or pixels x 0 ≡ point_pixel v palette display o (mirrored (flips_across o) (width o) x) line
-painted_is_flat v palette display o line indices pixels are painted x small =
+painted_is_flat v palette display o line pixels painted x small =
     let whole = width_whole o in
-    let flip : Bool = flips_across o in
     let place : x ≡ 8 * (x / 8) + x % 8 = omega arith in
     let known : x / 8 < width o / 8 = omega (arith, whole, small) in
     ap (λ (j : ℕ). get_or pixels j 0) place
     ∙ painted (x / 8) (x % 8) known (omega arith)
-    ∙ ap (λ (j : ℕ). indexed_pixel (object_colour v palette display o) (get_or indices j 0)) (mirrored_place flip (width o) x whole small)
-    ∙ ap (indexed_pixel (object_colour v palette display o)) (are (mirrored flip (width o) x) (mirrored_below flip (width o) x small))
+    ∙ ap (λ (j : ℕ). point_pixel v palette display o j line) (mirrored_place (flips_across o) (width o) x whole small)
 
 -- ---- the box
 
@@ -303,6 +348,11 @@ pub nothing_seen : (v : Banks) (palette oam : List ℕ) (display : Display) (lin
 unfolding seen_at pixel_of
 nothing_seen v palette oam display line number x p off = unseen (seen_at v palette oam display line x number) p (rw off refl)
 
+pub rank_of : (v : Banks) (palette oam : List ℕ) (display : Display) (line x number rank : ℕ) → rank ≡ priority (object_at oam number) →
+    (seen_at v palette oam display line x number).priority ≡ rank
+unfolding seen_at
+rank_of v palette oam display line x number rank e = sym e
+
 -- an object whose strip is laid over a row
 pub drawn : (v : Banks) (palette oam : List ℕ) (display : Display) (line number : ℕ) (o : Object) (y : ℕ) (pixels : List ℕ) (before after : ℕ → ObjectPixel) →
     o ≡ object_at oam number → is_drawn display.control o line ≡ true → y ≡ down o line → AreBox v palette oam display o y pixels → IsLaid o pixels (box_width o) before after →
@@ -313,11 +363,3 @@ drawn v palette oam display line number o y pixels before after e on there are l
     let Q : ℕ → Type 0 = λ (n : ℕ). AreBox v palette oam display o n pixels in
     let seen : P o = subst P (sym e) (strip_is_seen v palette oam display line number x pixels) in
     laid x small ∙ ap (λ (s : SeenObject). with_object s (before x)) (seen on (subst Q there are))
-
--- and one that isn't drawn on the line
-pub not_drawn : (v : Banks) (palette oam : List ℕ) (display : Display) (line number : ℕ) (o : Object) (before : ℕ → ObjectPixel) →
-    o ≡ object_at oam number → is_drawn display.control o line ≡ false →
-    (x : ℕ) → x < 256 → before x ≡ with_object (seen_at v palette oam display line x number) (before x)
-not_drawn v palette oam display line number o before e off x small =
-    let P : Object → Type 0 = λ (q : Object). is_drawn display.control q line ≡ false in
-    sym (nothing_seen v palette oam display line number x (before x) (subst P e off))

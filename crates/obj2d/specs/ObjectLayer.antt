@@ -1,8 +1,7 @@
-use Rattle.std.specs.Prelude.{ℕ, zero, suc, true, false, ◌≡◌, ◌≢◌, ◌<◌, ◌≤◌, ◌^◌, ◌↔◌, ◌⊎◌, ◌==◌, ◌||◌, nat_lt, if◌then◌else◌, List, slice_index, slice_index_or, IsTrue}
+use Rattle.std.specs.Prelude.{ℕ, zero, suc, true, false, ◌==◌, ◌||◌, nat_lt, if◌then◌else◌, List}
 use Rattle.vram_banks.specs.Cells.{Banks}
 use Rattle.obj2d.specs.declared.objects.Display.{Display}
 use Rattle.obj2d.specs.declared.layers.ObjectPixel.{ObjectPixel}
-use Rattle.obj2d.specs.declared.layers.ShownRow.{ShownRow}
 use Rattle.obj2d.specs.Attributes.{object_at, mode, priority}
 use Rattle.obj2d.specs.ObjectPixels.{pixel_of}
 
@@ -16,62 +15,6 @@ pub record SeenObject : Type 0 where
 
 abbrev pub blank_pixel : ObjectPixel
 blank_pixel = record { colour = 0; priority = 0; blended = false; window = false }
-
-abbrev pub pixel_at : List ObjectPixel → ℕ → ObjectPixel
-pixel_at pixels x = slice_index_or pixels x blank_pixel
-
--- what is seen of a pixel where nothing is blended and no window counts: its colour and its priority
-abbrev pub plainly : ObjectPixel → ObjectPixel
-plainly p = record { colour = p.colour; priority = p.priority; blended = false; window = false }
-
-abbrev pub shown_pixel : ShownRow → ℕ → ObjectPixel
-shown_pixel row x = record { colour = slice_index row.colours x; priority = slice_index row.priorities x; blended = false; window = false }
-
--- ---- as a relation
-
--- object n goes before object m: its priority is a lower number; or it is the same, and n is no higher
-abbrev pub IsBefore : (ℕ → SeenObject) → ℕ → ℕ → Type 0
-IsBefore seen n m = ((seen n).priority < (seen m).priority) ⊎ (((seen n).priority ≡ (seen m).priority) × (n ≤ m))
-
--- of the objects of numbers below `count` that are opaque and not of mode 2, object n goes before all
-pub record IsFrontObject (seen : ℕ → SeenObject) (count n : ℕ) : Type 0 where
-  pub known : n < count
-  pub opaque : (seen n).colour ≢ 0
-  pub shown : (seen n).mode ≢ 2
-  pub least : (m : ℕ) → m < count → (seen m).colour ≢ 0 → (seen m).mode ≢ 2 → IsBefore seen n m
-
--- the pixel shows an object, which is blended where its mode is 1
-pub record IsOf (s : SeenObject) (p : ObjectPixel) : Type 0 where
-  pub colour : p.colour ≡ s.colour
-  pub priority : p.priority ≡ s.priority
-  pub blended : p.blended ≡ (s.mode == 1)
-
--- the pixel shows none
-pub record IsTransparent (p : ObjectPixel) : Type 0 where
-  pub colour : p.colour ≡ 0
-  pub priority : p.priority ≡ 0
-  pub blended : p.blended ≡ false
-
--- no object of a number below `count` is opaque but those of mode 2
-abbrev pub IsNone : (ℕ → SeenObject) → ℕ → Type 0
-IsNone seen count = (n : ℕ) → n < count → (seen n).colour ≢ 0 → (seen n).mode ≡ 2
-
--- one of mode 2 is opaque
-abbrev pub IsInWindow : (ℕ → SeenObject) → ℕ → Type 0
-IsInWindow seen count = (n : ℕ) × (n < count) × ((seen n).colour ≢ 0) × ((seen n).mode ≡ 2)
-
--- the pixel shows the first object, if there is one, and lies in the object window exactly where an object of mode 2 is opaque
-pub record IsLayerPixel (seen : ℕ → SeenObject) (count : ℕ) (p : ObjectPixel) : Type 0 where
-  pub top : ((n : ℕ) × IsFrontObject seen count n × IsOf (seen n) p) ⊎ (IsNone seen count × IsTransparent p)
-  pub window : IsTrue p.window ↔ IsInWindow seen count
-
--- an opaque pixel has bit 15 set; a transparent one has neither priority nor blending
-pub record IsPixel (p : ObjectPixel) : Type 0 where
-  pub opaque : p.colour ≢ 0 → 2 ^ 15 ≤ p.colour
-  pub transparent : p.colour ≡ 0 → (p.priority ≡ 0) × (p.blended ≡ false)
-  pub small : p.priority < 4
-
--- ---- the same, object by object
 
 -- the pixel with one more object, of a number above those of all before: it is shown where none was, or one of a higher number of priority
 abbrev pub with_object : SeenObject → ObjectPixel → ObjectPixel

@@ -1,2 +1,2 @@
 pub mod Strips
-pub mod Words
+pub mod Spans

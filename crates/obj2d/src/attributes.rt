@@ -11,7 +11,7 @@ use crate::objects::{Object, Turn};
 
 /// A half of OAM.
 #[inline(always)]
-pub fn half_at(oam: &[u8], at: usize) -> u16
+fn half_at(oam: &[u8], at: usize) -> u16
     requires { at + 1 < length oam.now }
     ensures { result ≡ number_at Half oam.now at }
 {
@@ -71,18 +71,21 @@ pub fn turn_of(oam: &[u8], object: &Object) -> Turn
     }
 }
 
+#[inline(always)]
 pub fn is_affine(object: &Object) -> bool
     ensures { result ≡ is_affine object.now }
 {
     (object.attribute0 >> 8) % 2 == 1
 }
 
+#[inline(always)]
 fn bit_9(object: &Object) -> bool
     ensures { result ≡ bit 9 object.now.attribute0 }
 {
     (object.attribute0 >> 9) % 2 == 1
 }
 
+#[inline(always)]
 pub fn is_double(object: &Object) -> bool
     ensures { result ≡ is_double object.now }
 {
@@ -139,6 +142,7 @@ const WIDTHS: [usize; 16] = [8, 16, 32, 64, 16, 32, 32, 64, 8, 8, 16, 32, 8, 8, 
 const HEIGHTS: [usize; 16] = [8, 16, 32, 64, 8, 8, 16, 32, 16, 32, 32, 64, 8, 8, 8, 8];
 
 /// Which of the sixteen shapes and sizes the object has.
+#[inline(always)]
 fn form(object: &Object) -> usize
     ensures value { result ≡ 4 * shape object.now + object_size object.now }
     ensures small { result < 16 }
@@ -147,6 +151,7 @@ fn form(object: &Object) -> usize
 }
 
 /// The object's width in pixels.
+#[inline(always)]
 pub fn width(object: &Object) -> usize
     ensures value { result ≡ width object.now }
     ensures some { 8 ≤ result }
@@ -157,6 +162,7 @@ pub fn width(object: &Object) -> usize
 }
 
 /// The object's height in pixels.
+#[inline(always)]
 pub fn height(object: &Object) -> usize
     ensures value { result ≡ height object.now }
     ensures some { 8 ≤ result }
@@ -166,6 +172,7 @@ pub fn height(object: &Object) -> usize
 }
 
 /// The width of the object's box in pixels.
+#[inline(always)]
 pub fn box_width(object: &Object) -> usize
     ensures value { result ≡ box_width object.now }
     ensures small { result ≤ 128 }
@@ -178,6 +185,7 @@ pub fn box_width(object: &Object) -> usize
 }
 
 /// The height of the object's box in pixels.
+#[inline(always)]
 pub fn box_height(object: &Object) -> usize
     ensures value { result ≡ box_height object.now }
     ensures small { result ≤ 128 }

@@ -1,18 +1,21 @@
 //! Objects laid over one another.
 
-ghost use Rattle.std.specs.Prelude.{◌≡◌, ◌≢◌, ◌<◌, ◌≤◌, ℕ, IsTrue, IsFalse, length};
+ghost use Rattle.std.specs.Prelude.{◌≡◌, ◌≢◌, ◌<◌, ◌≤◌, ℕ, IsTrue, IsFalse, true, false, length, slice_index};
+ghost use Rattle.vram_banks.specs.Colours.{IsTable};
 ghost use Rattle.obj2d.specs.Attributes.{object_at, box_width, priority, mode, object_has_mosaic};
 ghost use Rattle.obj2d.specs.Places.{covers, IsSomeDrawn};
-ghost use Rattle.obj2d.specs.ObjectLayer.{IsLayerPixel, IsPixel, pixel_at, blank_pixel, plainly, shown_pixel, with_object, seen_at, object_pixel};
-ghost use Rattle.obj2d.specs.rows.Words.{row_pixel};
+ghost use Rattle.obj2d.specs.ObjectLaws.{IsLayerPixel, IsPixel, pixel_at};
+ghost use Rattle.obj2d.specs.ObjectLayer.{blank_pixel, with_object, seen_at, object_pixel};
+ghost use Rattle.obj2d.specs.ObjectLaws.{ArePresent, lanes_pixel};
 ghost use Rattle.obj2d.specs.rows.Strips.{AreNotDrawn, IsLaid};
 
 use crate::attributes::{box_width, mode, object_at, object_has_mosaic, priority};
+use crate::lanes::{clear, lanes_pixel, on_screen, put_shown, put_window};
 use crate::lines::{first_drawn, is_drawn_at};
 use crate::objects::{Display, Object};
 use crate::places::{covers, down, left_edge};
 use crate::strips::strip;
-use crate::words::{WordRow, clear, on_screen, put_shown, put_window, row_pixel, seen_pixel};
+use crate::tables::{Tables, fill_tables};
 use vram_banks::Vram;
 
 /// What all objects together have at a pixel.
@@ -35,19 +38,23 @@ pub struct ObjectRow {
     pub pixels: [ObjectPixel; 256],
 }
 
-/// What is seen of all objects along a row of 256 pixels, from the left, where nothing is blended and no window counts.
+/// What all objects together have along a row of 256 pixels, from the left, each of it in a row of its own, so that many places are reached at once.
 #[derive(Clone, Copy)]
-pub struct ShownRow {
+pub struct ObjectLanes {
     /// The colours, as in `ObjectPixel`.
     pub colours: [u16; 256],
     /// The priorities, as in `ObjectPixel`.
     pub priorities: [u16; 256],
+    /// 1 where the object is semi-transparent, else 0.
+    pub blended: [u16; 256],
+    /// 1 where the pixel lies in the object window, else 0.
+    pub windows: [u16; 256],
 }
 
 /// Lays the pixels of an object that is shown.
-fn lay_shown(object: &Object, pixels: &[u16; 128], into: &mut WordRow)
+fn lay_shown(object: &Object, pixels: &[u16; 128], into: &mut ObjectLanes)
     requires { mode object.now ≢ 2 }
-    ensures { IsLaid object.now pixels.now (box_width object.now) (row_pixel into.old) (row_pixel into.new) }
+    ensures { IsLaid object.now pixels.now (box_width object.now) (lanes_pixel into.old) (lanes_pixel into.new) }
 {
     let priority = priority(object);
     let mode = mode(object);
@@ -58,19 +65,21 @@ fn lay_shown(object: &Object, pixels: &[u16; 128], into: &mut WordRow)
 }
 
 /// Lays the pixels of an object of the object window.
-fn lay_window(object: &Object, pixels: &[u16; 128], into: &mut WordRow)
+fn lay_window(object: &Object, pixels: &[u16; 128], into: &mut ObjectLanes)
     requires { mode object.now ≡ 2 }
-    ensures { IsLaid object.now pixels.now (box_width object.now) (row_pixel into.old) (row_pixel into.new) }
+    ensures { IsLaid object.now pixels.now (box_width object.now) (lanes_pixel into.old) (lanes_pixel into.new) }
 {
+    let priority = priority(object);
+    let mode = mode(object);
     let span = on_screen(left_edge(object), box_width(object));
     for i in 0..span.count {
-        put_window(pixels[span.first + i], span.start + i, into);
+        put_window(pixels[span.first + i], priority, mode, span.start + i, into);
     }
 }
 
 /// Lays the pixels of an object's box over the row.
-fn lay(object: &Object, pixels: &[u16; 128], into: &mut WordRow)
-    ensures { IsLaid object.now pixels.now (box_width object.now) (row_pixel into.old) (row_pixel into.new) }
+fn lay(object: &Object, pixels: &[u16; 128], into: &mut ObjectLanes)
+    ensures { IsLaid object.now pixels.now (box_width object.now) (lanes_pixel into.old) (lanes_pixel into.new) }
 {
     if mode(object) == 2 {
         lay_window(object, pixels, into);
@@ -79,28 +88,34 @@ fn lay(object: &Object, pixels: &[u16; 128], into: &mut WordRow)
     }
 }
 
-/// Draws one object over the row.
+/// Draws one object over the row, and marks its priority. `palette` is there for the contract.
 fn draw(
     vram: &Vram,
     palette: &[u8],
     oam: &[u8],
     display: &Display,
+    tables: &Tables,
     line: u8,
     number: usize,
-    into: &mut WordRow,
+    into: &mut ObjectLanes,
+    present: &mut [bool; 4],
 )
-    requires colours { length palette.now ≡ 512 }
+    requires narrow { IsTable false palette.now tables.now.narrow }
+    requires wide { IsTable true palette.now tables.now.wide }
     requires oam { length oam.now ≡ 1024 }
     requires known { number < 128 }
-    ensures { (x : ℕ) → x < 256 → row_pixel into.new x
-        ≡ with_object (seen_at vram.now palette.now oam.now display.now line x number) (row_pixel into.old x) }
+    requires present { ArePresent into.old present.old }
+    ensures row { (x : ℕ) → x < 256 → lanes_pixel into.new x
+        ≡ with_object (seen_at vram.now palette.now oam.now display.now line x number) (lanes_pixel into.old x) }
+    ensures present { ArePresent into.new present.new }
 {
     if is_drawn_at(oam, display.control, line, number) {
         let object = object_at(oam, number);
         let mut pixels = [0; 128];
         let y = down(&object, line);
-        strip(vram, palette, oam, display, &object, y, &mut pixels);
+        strip(vram, palette, oam, display, tables, &object, y, &mut pixels);
         lay(&object, &pixels, into);
+        present[priority(&object) as usize] = true;
     }
 }
 
@@ -133,65 +148,83 @@ pub fn is_mosaic_object(oam: &[u8], number: usize) -> bool
     object_has_mosaic(&object_at(oam, number))
 }
 
-/// Draws all objects over a row where none is, of which those before `first` aren't drawn on the line.
+/// Draws all objects over a row where none is, of which those before `first` aren't drawn on the line, and marks the priorities of those that are.
+/// `palette` is there for the contract.
 fn lay_all(
     vram: &Vram,
     palette: &[u8],
     oam: &[u8],
     display: &Display,
+    tables: &Tables,
     line: u8,
     first: usize,
-    into: &mut WordRow,
+    into: &mut ObjectLanes,
+    present: &mut [bool; 4],
 )
-    requires colours { length palette.now ≡ 512 }
+    requires narrow { IsTable false palette.now tables.now.narrow }
+    requires wide { IsTable true palette.now tables.now.wide }
     requires oam { length oam.now ≡ 1024 }
     requires small { first ≤ 128 }
     requires before { AreNotDrawn oam.now display.now.control line first }
-    requires blank { (x : ℕ) → x < 256 → row_pixel into.old x ≡ blank_pixel }
-    ensures { (x : ℕ) → x < 256 → row_pixel into.new x ≡ object_pixel vram.now palette.now oam.now display.now line x }
+    requires blank { (x : ℕ) → x < 256 → lanes_pixel into.old x ≡ blank_pixel }
+    ensures row { (x : ℕ) → x < 256 → lanes_pixel into.new x ≡ object_pixel vram.now palette.now oam.now display.now line x }
+    ensures present { ArePresent into.new present.new }
 {
     for number in first..128 {
-        draw(vram, palette, oam, display, line, number, into);
+        draw(
+            vram, palette, oam, display, tables, line, number, into, present,
+        );
     }
 }
 
-/// Draws the row of all objects, of which those before `first` aren't drawn on the line.
-fn draw_words(
+/// Draws the row of all objects, of which those before `first` aren't drawn on the line, and marks the priorities of those that are.
+fn draw_row(
     vram: &Vram,
     palette: &[u8],
     oam: &[u8],
     display: &Display,
     line: u8,
     first: usize,
-    into: &mut WordRow,
+    into: &mut ObjectLanes,
+    present: &mut [bool; 4],
 )
     requires colours { length palette.now ≡ 512 }
     requires oam { length oam.now ≡ 1024 }
     requires small { first ≤ 128 }
     requires before { AreNotDrawn oam.now display.now.control line first }
-    ensures { (x : ℕ) → x < 256 → row_pixel into.new x ≡ object_pixel vram.now palette.now oam.now display.now line x }
+    ensures row { (x : ℕ) → x < 256 → lanes_pixel into.new x ≡ object_pixel vram.now palette.now oam.now display.now line x }
+    ensures present { ArePresent into.new present.new }
 {
     clear(into);
-    lay_all(vram, palette, oam, display, line, first, into);
+    let mut tables = Tables {
+        narrow: [0; 256],
+        wide: [0; 256],
+    };
+    fill_tables(palette, &mut tables);
+    lay_all(
+        vram, palette, oam, display, &tables, line, first, into, present,
+    );
 }
 
 /// Hands the row out as pixels.
-fn hand_out(row: &WordRow, into: &mut ObjectRow)
-    ensures { (x : ℕ) → x < 256 → pixel_at into.new.pixels x ≡ row_pixel row.now x }
+fn hand_out(row: &ObjectLanes, into: &mut ObjectRow)
+    requires { (x : ℕ) → x < 256 → slice_index row.now.priorities x < 4 }
+    ensures { (x : ℕ) → x < 256 → pixel_at into.new.pixels x ≡ lanes_pixel row.now x }
 {
     for x in 0..256usize {
-        into.pixels[x] = row_pixel(row, x);
+        into.pixels[x] = lanes_pixel(row, x);
     }
 }
 
-/// Hands the colours and the priorities of the row out.
-fn show(row: &WordRow, into: &mut ShownRow)
-    ensures { (x : ℕ) → x < 256 → shown_pixel into.new x ≡ plainly (row_pixel row.now x) }
+/// No object anywhere.
+pub fn no_objects() -> ObjectLanes
+    ensures { (x : ℕ) → x < 256 → lanes_pixel result x ≡ blank_pixel }
 {
-    for x in 0..256usize {
-        let pixel = seen_pixel(row, x);
-        into.colours[x] = pixel.colour;
-        into.priorities[x] = pixel.priority as u16;
+    ObjectLanes {
+        colours: [0; 256],
+        priorities: [0; 256],
+        blended: [0; 256],
+        windows: [0; 256],
     }
 }
 
@@ -221,30 +254,39 @@ pub fn object_row(
 {
     let display = Display { engine, control };
     let first = first_drawn(oam, control, line);
-    let mut row = WordRow {
-        words: [0; 256],
-        windows: [false; 256],
-    };
-    draw_words(vram, palette, oam, &display, line, first, &mut row);
+    let mut row = no_objects();
+    let mut present = [false; 4];
+    draw_row(
+        vram,
+        palette,
+        oam,
+        &display,
+        line,
+        first,
+        &mut row,
+        &mut present,
+    );
     hand_out(&row, into);
 }
 
-/// Draws the same, of which the colours and the priorities alone are handed out, where some object is drawn on the line, and tells whether one
-/// is. Where none is, no pixel is of an object, and `into` stays.
-pub fn shown_row(
+/// Draws the same in rows of lanes, where some object is drawn on the line, and tells whether one is. Where none is, no pixel is of an object, and
+/// `into` stays. `present` tells of each priority whether an object that is drawn has it, which those that are seen have.
+pub fn object_lanes(
     vram: &Vram,
     palette: &[u8],
     oam: &[u8],
     control: u32,
     engine: u8,
     line: u8,
-    into: &mut ShownRow,
+    into: &mut ObjectLanes,
+    present: &mut [bool; 4],
 ) -> bool
     requires colours { length palette.now ≡ 512 }
     requires oam { length oam.now ≡ 1024 }
     ensures some { IsTrue result → IsSomeDrawn oam.now control line }
-    ensures row { IsTrue result → (x : ℕ) → x < 256 → shown_pixel into.new x
-        ≡ plainly (object_pixel vram.now palette.now oam.now (record { engine = engine; control = control }) line x) }
+    ensures row { IsTrue result → (x : ℕ) → x < 256 → lanes_pixel into.new x
+        ≡ object_pixel vram.now palette.now oam.now (record { engine = engine; control = control }) line x }
+    ensures present { IsTrue result → ArePresent into.new present.new }
     ensures none { IsFalse result → (x : ℕ) → x < 256
         → object_pixel vram.now palette.now oam.now (record { engine = engine; control = control }) line x ≡ blank_pixel }
     ensures stays { IsFalse result → into.new ≡ into.old }
@@ -254,11 +296,6 @@ pub fn shown_row(
     if first == 128 {
         return false;
     }
-    let mut row = WordRow {
-        words: [0; 256],
-        windows: [false; 256],
-    };
-    draw_words(vram, palette, oam, &display, line, first, &mut row);
-    show(&row, into);
+    draw_row(vram, palette, oam, &display, line, first, into, present);
     true
 }

@@ -1,18 +1,20 @@
 //! The pixel of a point of an object.
 
-ghost use Rattle.std.specs.Prelude.{◌≡◌, ◌<◌, ◌≤◌, ◌*◌, ◌%◌, ◌^◌, false, length};
+ghost use Rattle.std.specs.Prelude.{◌≡◌, ◌<◌, ◌≤◌, ◌+◌, ◌*◌, ◌%◌, ◌^◌, true, false};
 ghost use Rattle.ds_base.specs.Bits.{bits};
 ghost use Rattle.vram_banks.specs.Tiles.{nibble_at};
 ghost use Rattle.obj2d.specs.Attributes.{object_has_256, tile, palette_number, box_width, box_height};
 ghost use Rattle.obj2d.specs.ObjectPixels.{object_space, object_palette_space, tile_units, tile_address, object_index, point_pixel, turned_pixel};
+ghost use Rattle.obj2d.specs.rows.Strips.{IsColoured};
 
 use crate::attributes::{object_has_256, width};
 use crate::objects::{Display, Object, Turn};
 use crate::places::{affine_across, affine_down};
 use ds_base::Space;
-use vram_banks::{Vram, byte, extended_pixel, standard_pixel};
+use vram_banks::{Vram, byte};
 
 /// The space of an engine's objects.
+#[inline(always)]
 pub fn object_space(engine: u8) -> Space
     ensures { result ≡ object_space engine }
 {
@@ -35,6 +37,7 @@ pub fn object_palette_space(engine: u8) -> Space
 }
 
 /// How many units of 32 bytes a tile of the object has.
+#[inline(always)]
 fn tile_units(object: &Object) -> u32
     ensures value { result ≡ tile_units object.now }
     ensures small { result ≤ 2 }
@@ -43,6 +46,7 @@ fn tile_units(object: &Object) -> u32
 }
 
 /// How many bytes the tiles' numbers count, where tiles have one dimension.
+#[inline(always)]
 fn boundary(display: &Display) -> u32
     ensures value { result ≡ 32 * 2 ^ bits 20 2 display.now.control }
     ensures small { result ≤ 256 }
@@ -57,6 +61,7 @@ fn boundary(display: &Display) -> u32
 }
 
 /// The number of the object's first tile.
+#[inline(always)]
 fn tile(object: &Object) -> u32
     ensures value { result ≡ tile object.now }
     ensures small { result < 0x400 }
@@ -65,6 +70,7 @@ fn tile(object: &Object) -> u32
 }
 
 /// Where a tile of the object lies.
+#[inline(always)]
 pub fn tile_address(display: &Display, object: &Object, tx: u32, ty: u32) -> u32
     requires across { tx < 8 }
     requires down { ty < 8 }
@@ -90,6 +96,7 @@ pub fn palette_number(object: &Object) -> u16
 }
 
 /// The left or the right nibble of a byte.
+#[inline(always)]
 fn nibble(x: u32, byte: u8) -> u8
     ensures value { result ≡ nibble_at x byte }
     ensures small { result < 16 }
@@ -98,6 +105,7 @@ fn nibble(x: u32, byte: u8) -> u8
 }
 
 /// The index at a point of the object.
+#[inline(always)]
 #[tactic(auto, unfolding(crate::specs::ObjectPixels::object_index))]
 fn object_index(vram: &Vram, display: &Display, object: &Object, x: u32, y: u32) -> u8
     requires across { x < 64 }
@@ -114,44 +122,46 @@ fn object_index(vram: &Vram, display: &Display, object: &Object, x: u32, y: u32)
     }
 }
 
-/// The pixel of a point of the object.
-#[tactic(auto, unfolding(crate::specs::ObjectPixels::object_colour))]
+/// The pixel of a point of the object, by the table of its colours' pixels from `start` on. `palette` is there for the contract.
+#[inline(always)]
 fn point_pixel(
     vram: &Vram,
     palette: &[u8],
     display: &Display,
     object: &Object,
+    table: &[u16; 256],
+    start: usize,
     x: u32,
     y: u32,
 ) -> u16
-    requires colours { length palette.now ≡ 512 }
+    requires table { IsColoured vram.now palette.now display.now object.now table.now start }
+    requires narrow { object_has_256 object.now ≡ false → start ≤ 240 }
+    requires wide { object_has_256 object.now ≡ true → start ≡ 0 }
     requires across { x < 64 }
     requires down { y < 64 }
     ensures { result ≡ point_pixel vram.now palette.now display.now object.now x y }
 {
     let index = object_index(vram, display, object, x, y);
-    if !object_has_256(object) {
-        standard_pixel(palette, 16 * palette_number(object) as usize, index)
-    } else if (display.control >> 31) % 2 == 1 {
-        let space = object_palette_space(display.engine);
-        extended_pixel(vram, space, 512 * palette_number(object) as u32, index)
-    } else {
-        standard_pixel(palette, 0, index)
-    }
+    table[start + index as usize]
 }
 
-/// The pixel at a place of an affine object's box.
+/// The pixel at a place of an affine object's box, likewise.
+#[inline(always)]
 #[tactic(auto, unfolding(crate::specs::ObjectPixels::turned_pixel))]
 pub fn turned_pixel(
     vram: &Vram,
     palette: &[u8],
     display: &Display,
     object: &Object,
+    table: &[u16; 256],
+    start: usize,
     turn: &Turn,
     x: usize,
     y: usize,
 ) -> u16
-    requires colours { length palette.now ≡ 512 }
+    requires table { IsColoured vram.now palette.now display.now object.now table.now start }
+    requires narrow { object_has_256 object.now ≡ false → start ≤ 240 }
+    requires wide { object_has_256 object.now ≡ true → start ≡ 0 }
     requires across { x < box_width object.now }
     requires down { y < box_height object.now }
     ensures { result ≡ turned_pixel vram.now palette.now display.now object.now turn.now x y }
@@ -165,6 +175,8 @@ pub fn turned_pixel(
                 palette,
                 display,
                 object,
+                table,
+                start,
                 point_x as u32,
                 point_y as u32,
             ),

@@ -48,6 +48,7 @@ pub fn mirrored(flip: bool, count: usize, place: usize) -> usize
 }
 
 /// The distance of a place of the box from its middle.
+#[inline(always)]
 fn from_middle(size: usize, place: usize) -> i32
     requires size { size ≤ 128 }
     requires place { place < 128 }
@@ -59,6 +60,7 @@ fn from_middle(size: usize, place: usize) -> i32
 }
 
 /// So many steps.
+#[inline(always)]
 fn steps(step: i16, distance: i32) -> i32
     requires low { negsuc 64 ≤ℤ distance }
     requires high { distance ≤ℤ pos 128 }
@@ -68,6 +70,7 @@ fn steps(step: i16, distance: i32) -> i32
 }
 
 /// The sum of the steps across and down.
+#[inline(always)]
 fn sum(first: i32, second: i32) -> i64
     ensures value { result ≡ first +ℤ second }
     ensures low { negsuc (2 ^ 32) ≤ℤ result }
@@ -77,6 +80,7 @@ fn sum(first: i32, second: i32) -> i64
 }
 
 /// A number with 8 fractional bits, which are cut off downwards.
+#[inline(always)]
 fn whole(sum: i64) -> i64
     requires low { negsuc (2 ^ 32) ≤ℤ sum }
     requires high { sum ≤ℤ pos (2 ^ 32) }
@@ -88,6 +92,7 @@ fn whole(sum: i64) -> i64
 }
 
 /// A distance from the middle of the object, as a coordinate.
+#[inline(always)]
 fn from_edge(distance: i64, count: usize) -> i64
     requires low { negsuc (2 ^ 32) ≤ℤ distance }
     requires high { distance ≤ℤ pos (2 ^ 32) }
@@ -98,6 +103,7 @@ fn from_edge(distance: i64, count: usize) -> i64
 }
 
 /// A coordinate of an affine object's point.
+#[inline(always)]
 fn box_coordinate(a: i16, b: i16, dx: i32, dy: i32, count: usize) -> i64
     requires dx_low { negsuc 64 ≤ℤ dx }
     requires dx_high { dx ≤ℤ pos 128 }
@@ -110,6 +116,7 @@ fn box_coordinate(a: i16, b: i16, dx: i32, dy: i32, count: usize) -> i64
 }
 
 /// A place in the object, or none where a coordinate lies outside.
+#[inline(always)]
 fn inside(count: usize, coordinate: i64) -> Option<usize>
     ensures value { result ≡ inside count coordinate }
     ensures small { IfSome result (λ place. place < count) }
@@ -123,6 +130,7 @@ fn inside(count: usize, coordinate: i64) -> Option<usize>
 }
 
 /// The distances of a place of the box from its middle, across and down.
+#[inline(always)]
 fn distances(object: &Object, x: usize, y: usize) -> (i32, i32)
     requires x { x < box_width object.now }
     requires y { y < box_height object.now }
@@ -140,6 +148,7 @@ fn distances(object: &Object, x: usize, y: usize) -> (i32, i32)
 }
 
 /// The place across of an affine object's point.
+#[inline(always)]
 pub fn affine_across(object: &Object, turn: &Turn, x: usize, y: usize) -> Option<usize>
     requires x { x < box_width object.now }
     requires y { y < box_height object.now }
@@ -152,6 +161,7 @@ pub fn affine_across(object: &Object, turn: &Turn, x: usize, y: usize) -> Option
 }
 
 /// The place down of an affine object's point.
+#[inline(always)]
 pub fn affine_down(object: &Object, turn: &Turn, x: usize, y: usize) -> Option<usize>
     requires x { x < box_width object.now }
     requires y { y < box_height object.now }

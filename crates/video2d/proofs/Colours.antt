@@ -1,18 +1,16 @@
-use Rattle.std.proofs.Common.{ℕ, zero, suc, ◌≡◌, ◌<◌, ◌≤◌, ◌+◌, ◌-◌, ◌*◌, ◌/◌, ◌%◌, ◌^◌, ◌==◌, min, Bool, List, [], ◌∷◌, ◌++◌, length, take, drop, map, arith}
+use Rattle.video2d.proofs.Words.{ℕ, zero, suc, ◌≡◌, ◌<◌, ◌≤◌, ◌+◌, ◌-◌, ◌*◌, ◌/◌, ◌%◌, ◌^◌, ◌==◌, min, Bool, List, [], ◌∷◌, ◌++◌, length, drop, map}
+use Rattle.video2d.proofs.Words.{arith, length-append, AllByRecursion, range_with_len, either, blended, held, red, green, blue, top_bit, Banks}
+use Rattle.video2d.proofs.Words.{blends, brightness_changed, colour_of, effects_where, effect, eva, evb, front_colour, is_first_target, top_alone}
+use Rattle.video2d.proofs.Words.{with_effects, EngineState, IsColour, IsFrame, LayerPixels, SeenLayer, composed_pixel, engine_line, engine_pixel}
+use Rattle.video2d.proofs.Words.{whole_line, Engine}
+use Rattle.std.proofs.Common.{take}
 use Rattle.std.proofs.Math.Nat.{mul-le-mul_left}
-use Rattle.std.proofs.lemmas.List.{length-append, length-drop, length-take-le}
+use Rattle.std.proofs.lemmas.List.{length-drop, length-take-le}
 use Rattle.std.proofs.lemmas.List.FromFn.{length-map-range_with_len}
-use Rattle.std.specs.List.{AllByRecursion, range_with_len}
-use Rattle.ds_base.proofs.Choices.{either}
-use Rattle.line_lanes.specs.Pixels.{blended, brightened, by_channels, darkened, held, mastered, red, green, blue, top_bit}
-use Rattle.vram_banks.specs.Cells.{Banks}
-use Rattle.video2d.specs.Effects.{blends, brightness_changed, colour_of, effects_where, effect, eva, evb, evy, front_colour, is_first_target, top_alone, with_effects}
-use Rattle.video2d.specs.Engines.{EngineState, master_bright}
-use Rattle.video2d.specs.Invariants.{IsColour, IsFrame}
-use Rattle.video2d.specs.Layers.{SeenLayer}
-use Rattle.video2d.specs.Pictures.{composed_pixel, engine_line, engine_pixel, is_engine_enabled, line_laid, screen_kind_pixel, screen_shown, whole_line}
-use Rattle.video2d.specs.declared.engines.Engine.{Engine}
-use Rattle.video2d.specs.declared.layers.LayerPixels.{LayerPixels}
+use Rattle.line_lanes.specs.Pixels.{brightened, by_channels, darkened, mastered}
+use Rattle.video2d.specs.Effects.{evy}
+use Rattle.video2d.specs.Engines.{master_bright}
+use Rattle.video2d.specs.Pictures.{is_engine_enabled, line_laid, screen_kind_pixel, screen_shown}
 use Rattle.video2d.specs.declared.lines.Screen.{Screen}
 use Rattle.video2d.specs.declared.lines.Screen.TheVariants.{White, Layers, Bank, MainMemory}
 

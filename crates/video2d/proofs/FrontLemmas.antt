@@ -1,42 +1,13 @@
-use Rattle.std.proofs.Common.{ℕ, zero, suc, Bool, true, false, ◌≡◌, ◌≢◌, ◌<◌, ◌≤◌, ◌+◌, ◌%◌, ◌^◌, inl, inr, List, [], ◌∷◌, ◌++◌, nat_le, if◌then◌else◌, refl, sym, ◌∙◌, ap, subst, arith}
-use Rattle.std.proofs.lemmas.Bool.{cases_eq, cases_lt}
-use Rattle.ds_base.specs.Bits.{flag}
-use Rattle.video2d.specs.Layers.{SeenLayer, at_priority, from_priority, front_to_back}
-use Rattle.video2d.specs.declared.fronts.FrontPair.{FrontPair}
-use Rattle.video2d.specs.rows.Composed.{no_word, target_place, layer_base, layer_word, no_layers, with_layer_word, front_words}
+use Rattle.video2d.proofs.Words.{ℕ, zero, suc, Bool, true, false, ◌≡◌, ◌≢◌, ◌<◌, ◌≤◌, ◌+◌, ◌*◌, ◌/◌, ◌%◌, ◌^◌, ◌==◌, ◌&&◌, ◌||◌, inl, inr, List, []}
+use Rattle.video2d.proofs.Words.{◌∷◌, ◌++◌, min, nat_le, if◌then◌else◌, refl, sym, ◌∙◌, ap, subst, arith, cases_eq, bit, bits, flag, blended, held}
+use Rattle.video2d.proofs.Words.{red, green, blue, top_bit, blends, brightness_changed, colour_of, effect, effects_where, eva, evb, is_first_target}
+use Rattle.video2d.proofs.Words.{is_second_target, top_alone, with_effects, EngineState, bgcnt, LayerPixels, SeenLayer, at_priority, backdrop_of}
+use Rattle.video2d.proofs.Words.{from_priority, front_to_back, layers_of, composed_pixel, shown_by_windows, FrontPixel, finished_where, front_kind}
+use Rattle.video2d.proofs.Words.{front_over, put_all, put_at, put_layer, put_turn, started}
+use Rattle.video2d.specs.declared.fronts.Laid.{Laid}
+use Rattle.video2d.specs.rows.Fronts.{effect_mark, finished, laid_as, laid_of, mark_blended, no_front, shown_layers}
 
--- The two least words are those of the first two layers from front to back.
-
--- ---- a layer, put among layers from front to back
-
-abbrev pub inserted : SeenLayer → List SeenLayer → List SeenLayer
-inserted s [] = s ∷ []
-inserted s (t ∷ ts) = if nat_le s.priority t.priority then s ∷ (t ∷ ts) else t ∷ inserted s ts
-
--- each has a priority from one on
-abbrev AllFrom : ℕ → List SeenLayer → Type 0
-AllFrom p [] = Unit {0}
-AllFrom p (t ∷ ts) = (p ≤ t.priority) × AllFrom p ts
-
--- each has a priority below one
-abbrev AllBelow : ℕ → List SeenLayer → Type 0
-AllBelow p [] = Unit {0}
-AllBelow p (t ∷ ts) = (t.priority < p) × AllBelow p ts
-
-in_front : (s : SeenLayer) (ts : List SeenLayer) → AllFrom s.priority ts → inserted s ts ≡ s ∷ ts
-in_front s [] h = refl
-in_front s (t ∷ ts) h = let le : s.priority ≤ t.priority = h.0 in grind (arith, le)
-
-behind_one : (s t : SeenLayer) (ts : List SeenLayer) → t.priority < s.priority → inserted s (t ∷ ts) ≡ t ∷ inserted s ts
-behind_one s t ts lt = grind (arith, lt)
-
-behind : (s : SeenLayer) (ts us : List SeenLayer) → AllBelow s.priority ts → inserted s (ts ++ us) ≡ ts ++ inserted s us
-behind s [] us h = refl
-behind s (t ∷ ts) us h = behind_one s t (ts ++ us) h.0 ∙ ap (λ (l : List SeenLayer). t ∷ l) (behind s ts us h.1)
-
-joined_from : (p : ℕ) (ts us : List SeenLayer) → AllFrom p ts → AllFrom p us → AllFrom p (ts ++ us)
-joined_from p [] us h k = k
-joined_from p (t ∷ ts) us h k = (h.0, joined_from p ts us h.1 k)
+-- Layers that are laid over one another from back to front leave the first two of the list from front to back, and what acts on them.
 
 -- ---- those of one priority
 
@@ -49,266 +20,262 @@ other p s ss h = grind (arith, h)
 pub taken : (p : ℕ) (s : SeenLayer) (ss : List SeenLayer) → s.pixel ≢ 0 → s.priority ≡ p → at_priority p (s ∷ ss) ≡ s ∷ at_priority p ss
 taken p s ss h e = grind (arith, h, e)
 
--- a fact of all layers that are opaque and of the priority holds of those that are taken
-at_from : (p q : ℕ) (ss : List SeenLayer) → q ≤ p → AllFrom q (at_priority p ss)
-at_from p q [] le = tt
-at_from p q (s ∷ ss) le =
-    elim (cases_eq s.pixel 0) [
-      | inl clear ↦ subst (AllFrom q) (sym (hidden p s ss clear)) (at_from p q ss le)
-      | inr opaque ↦
-          elim (cases_eq s.priority p) [
-            | inl same ↦ subst (AllFrom q) (sym (taken p s ss opaque same)) (omega (arith, le, same), at_from p q ss le)
-            | inr else_ ↦ subst (AllFrom q) (sym (other p s ss else_)) (at_from p q ss le)
-          ]
-    ]
-
-at_below : (p q : ℕ) (ss : List SeenLayer) → p < q → AllBelow q (at_priority p ss)
-at_below p q [] lt = tt
-at_below p q (s ∷ ss) lt =
-    elim (cases_eq s.pixel 0) [
-      | inl clear ↦ subst (AllBelow q) (sym (hidden p s ss clear)) (at_below p q ss lt)
-      | inr opaque ↦
-          elim (cases_eq s.priority p) [
-            | inl same ↦ subst (AllBelow q) (sym (taken p s ss opaque same)) (omega (arith, lt, same), at_below p q ss lt)
-            | inr else_ ↦ subst (AllBelow q) (sym (other p s ss else_)) (at_below p q ss lt)
-          ]
-    ]
-
-all_from : (p q more : ℕ) (ss : List SeenLayer) → q ≤ p → AllFrom q (from_priority p more ss)
-all_from p q zero ss le = tt
-all_from p q (suc more) ss le =
-    joined_from q (at_priority p ss) (from_priority (suc p) more ss) (at_from p q ss le) (all_from (suc p) q more ss (omega (arith, le)))
-
--- ---- one more layer, from a priority on
-
 pub still_hidden : (p more : ℕ) (s : SeenLayer) (ss : List SeenLayer) → s.pixel ≡ 0 → from_priority p more (s ∷ ss) ≡ from_priority p more ss
 still_hidden p zero s ss h = refl
 still_hidden p (suc more) s ss h =
     ap (λ (l : List SeenLayer). l ++ from_priority (suc p) more (s ∷ ss)) (hidden p s ss h)
     ∙ ap (λ (l : List SeenLayer). at_priority p ss ++ l) (still_hidden (suc p) more s ss h)
 
-passed : (p more : ℕ) (s : SeenLayer) (ss : List SeenLayer) → s.priority < p → from_priority p more (s ∷ ss) ≡ from_priority p more ss
-passed p zero s ss h = refl
-passed p (suc more) s ss h =
-    ap (λ (l : List SeenLayer). l ++ from_priority (suc p) more (s ∷ ss)) (other p s ss (λ (e : s.priority ≡ p). omega (arith, e, h)))
-    ∙ ap (λ (l : List SeenLayer). at_priority p ss ++ l) (passed (suc p) more s ss (omega (arith, h)))
+-- ---- layers laid over what is in front, the last of the list first
 
-put_in : (p more : ℕ) (s : SeenLayer) (ss : List SeenLayer) → s.pixel ≢ 0 → p ≤ s.priority → s.priority < p + more →
-    from_priority p more (s ∷ ss) ≡ inserted s (from_priority p more ss)
-put_in p zero s ss opaque low high = absurd (omega (arith, low, high))
-put_in p (suc more) s ss opaque low high =
-    elim (cases_eq s.priority p) [
-      | inl same ↦
-          (let rest : from_priority (suc p) more (s ∷ ss) ≡ from_priority (suc p) more ss = passed (suc p) more s ss (omega (arith, same)) in
-          let all : AllFrom s.priority (from_priority p (suc more) ss) = all_from p s.priority (suc more) ss (omega (arith, same)) in
-          ap (λ (l : List SeenLayer). l ++ from_priority (suc p) more (s ∷ ss)) (taken p s ss opaque same)
-          ∙ ap (λ (l : List SeenLayer). s ∷ (at_priority p ss ++ l)) rest
-          ∙ sym (in_front s (from_priority p (suc more) ss) all))
-      | inr else_ ↦
-          (let rest : from_priority (suc p) more (s ∷ ss) ≡ inserted s (from_priority (suc p) more ss) =
-          put_in (suc p) more s ss opaque (omega (arith, low, else_)) (omega (arith, high)) in
-          ap (λ (l : List SeenLayer). l ++ from_priority (suc p) more (s ∷ ss)) (other p s ss else_)
-          ∙ ap (λ (l : List SeenLayer). at_priority p ss ++ l) rest
-          ∙ sym (behind s (at_priority p ss) (from_priority (suc p) more ss) (at_below p s.priority ss (omega (arith, low, else_)))))
-    ]
+abbrev laid_all : EngineState → List SeenLayer → FrontPixel → FrontPixel
+laid_all e [] f = f
+laid_all e (s ∷ ss) f = put_layer e s (laid_all e ss f)
 
--- ---- layers of known priorities and targets, in the order in which they count
+all_joined : (e : EngineState) (ts us : List SeenLayer) (f : FrontPixel) → laid_all e (ts ++ us) f ≡ laid_all e ts (laid_all e us f)
+all_joined e [] us f = refl
+all_joined e (t ∷ ts) us f = ap (put_layer e t) (all_joined e ts us f)
 
-abbrev pub IsKnown : ℕ → SeenLayer → Type 0
-IsKnown place t = (t.pixel ≢ 0) × (t.priority < 5) × (t.target < 6) × (place < target_place t.target)
+turn_clear : (e : EngineState) (p : ℕ) (s : SeenLayer) (ss : List SeenLayer) (f : FrontPixel) → s.pixel ≡ 0 → put_turn e p (s ∷ ss) f ≡ put_turn e p ss f
+turn_clear e p s ss f h = grind (arith, h)
 
-abbrev pub AllKnown : ℕ → List SeenLayer → Type 0
-AllKnown place [] = Unit {0}
-AllKnown place (t ∷ ts) = IsKnown place t × AllKnown place ts
+turn_other : (e : EngineState) (p : ℕ) (s : SeenLayer) (ss : List SeenLayer) (f : FrontPixel) → s.priority ≢ p → put_turn e p (s ∷ ss) f ≡ put_turn e p ss f
+turn_other e p s ss f h = grind (arith, h)
 
-abbrev pub AllPast : ℕ → List SeenLayer → Type 0
-AllPast place [] = Unit {0}
-AllPast place (t ∷ ts) = (t.priority < 5) × (t.target < 6) × (place < target_place t.target) × AllPast place ts
+turn_taken : (e : EngineState) (p : ℕ) (s : SeenLayer) (ss : List SeenLayer) (f : FrontPixel) → s.priority ≡ p → put_turn e p (s ∷ ss) f ≡ put_layer e s (put_turn e p ss f)
+turn_taken e p s ss f h = grind (arith, h)
 
-joined_known : (place : ℕ) (ts us : List SeenLayer) → AllKnown place ts → AllKnown place us → AllKnown place (ts ++ us)
-joined_known place [] us h k = k
-joined_known place (t ∷ ts) us h k = (h.0, joined_known place ts us h.1 k)
-
-at_known : (place p : ℕ) (ss : List SeenLayer) → AllPast place ss → AllKnown place (at_priority p ss)
-at_known place p [] h = tt
-at_known place p (s ∷ ss) h =
-    let P : List SeenLayer → Type 0 = AllKnown place in
+at_laid : (e : EngineState) (p : ℕ) (ss : List SeenLayer) (f : FrontPixel) → laid_all e (at_priority p ss) f ≡ put_turn e p ss f
+at_laid e p [] f = refl
+at_laid e p (s ∷ ss) f =
+    let F : List SeenLayer → FrontPixel = λ (l : List SeenLayer). laid_all e l f in
     elim (cases_eq s.pixel 0) [
-      | inl clear ↦ subst P (sym (hidden p s ss clear)) (at_known place p ss h.3)
+      | inl clear ↦ ap F (hidden p s ss clear) ∙ at_laid e p ss f ∙ sym (turn_clear e p s ss f clear)
       | inr opaque ↦
           elim (cases_eq s.priority p) [
-            | inl same ↦ subst P (sym (taken p s ss opaque same)) ((opaque, h.0, h.1, h.2), at_known place p ss h.3)
-            | inr else_ ↦ subst P (sym (other p s ss else_)) (at_known place p ss h.3)
+            | inl same ↦ ap F (taken p s ss opaque same) ∙ ap (put_layer e s) (at_laid e p ss f) ∙ sym (turn_taken e p s ss f same)
+            | inr else_ ↦ ap F (other p s ss else_) ∙ at_laid e p ss f ∙ sym (turn_other e p s ss f else_)
           ]
     ]
 
-pub all_known : (place p more : ℕ) (ss : List SeenLayer) → AllPast place ss → AllKnown place (from_priority p more ss)
-all_known place p zero ss h = tt
-all_known place p (suc more) ss h =
-    joined_known place (at_priority p ss) (from_priority (suc p) more ss) (at_known place p ss h) (all_known place (suc p) more ss h)
+abbrev turns_from : EngineState → ℕ → ℕ → List SeenLayer → FrontPixel → FrontPixel
+turns_from e p zero ss f = f
+turns_from e p (suc more) ss f = put_turn e p ss (turns_from e (suc p) more ss f)
 
--- ---- words
+from_laid : (e : EngineState) (p more : ℕ) (ss : List SeenLayer) (f : FrontPixel) → laid_all e (from_priority p more ss) f ≡ turns_from e p more ss f
+from_laid e p zero ss f = refl
+from_laid e p (suc more) ss f =
+    all_joined e (at_priority p ss) (from_priority (suc p) more ss) f
+    ∙ at_laid e p ss (laid_all e (from_priority (suc p) more ss) f)
+    ∙ ap (put_turn e p ss) (from_laid e (suc p) more ss f)
 
-place_small : (target : ℕ) → target < 6 → target_place target < 8
-place_small target h = grind (arith, h)
+-- a last layer of another priority counts for nothing
+turn_end : (e : EngineState) (p : ℕ) (ss : List SeenLayer) (s : SeenLayer) (f : FrontPixel) → s.priority ≢ p → put_turn e p (ss ++ (s ∷ [])) f ≡ put_turn e p ss f
+turn_end e p [] s f h = turn_other e p s [] f h
+turn_end e p (t ∷ ss) s f h = ap (put_at e p t) (turn_end e p ss s f h)
 
-flag_small : (b : Bool) → flag 0 b < 2
-flag_small true = omega arith
-flag_small false = omega arith
+-- ---- the backdrop behind all
 
-pub opaque_word : (s : SeenLayer) → s.pixel ≢ 0 → layer_word s ≡ layer_base s.priority s.target s.blended + s.pixel % 2 ^ 15
-opaque_word s h = grind (arith, h)
+abbrev AllBelow : ℕ → List SeenLayer → Type 0
+AllBelow p [] = Unit {0}
+AllBelow p (s ∷ ss) = (s.priority < p) × AllBelow p ss
 
-pub clear_word : (s : SeenLayer) → s.pixel ≡ 0 → layer_word s ≡ no_word
-clear_word s h = grind (arith, h)
+backdrop_opaque : (b : ℕ) → (backdrop_of b).pixel ≢ 0
+backdrop_opaque b = omega arith
 
-pub word_small : (s : SeenLayer) → s.pixel ≢ 0 → s.priority < 5 → s.target < 6 → layer_word s < 2 ^ 25
-word_small s opaque p t =
-    let e = opaque_word s opaque in
-    let f = flag_small s.blended in
-    let g = place_small s.target t in
-    omega (arith, e, f, g, p, t)
+backdrop_laid : (e : EngineState) (b : ℕ) → put_layer e (backdrop_of b) no_front ≡ started b (laid_as e 5)
+backdrop_laid e b =
+    let opaque = backdrop_opaque b in
+    let low : (backdrop_of b).pixel % 2 ^ 15 ≡ b % 2 ^ 15 = omega arith in
+    over_clear (backdrop_of b).pixel (laid_as e 5) opaque
+    ∙ ap (λ (n : ℕ). let f : FrontPixel = record { top = n + (laid_as e 5).second; next = 0; mark = (laid_as e 5).mark } in f) low where
+      over_clear : (pixel : ℕ) (l : Laid) → pixel ≢ 0 → front_over pixel l no_front ≡ record { top = pixel % 2 ^ 15 + l.second; next = 0; mark = l.mark }
+      over_clear pixel l h = grind (arith, h)
 
-word_less : (s t : SeenLayer) → s.pixel ≢ 0 → s.priority < 5 → s.target < 6 → IsKnown (target_place s.target) t → s.priority ≤ t.priority → layer_word s < layer_word t
-word_less s t opaque p g k le =
-    let e = opaque_word s opaque in
-    let d = opaque_word t k.0 in
-    let f = flag_small s.blended in
-    let p2 = k.1 in
-    let g2 = k.2 in
-    let after = k.3 in
-    omega (arith, e, d, f, p, g, p2, g2, after, le)
+last_laid : (e : EngineState) (b : ℕ) (ss : List SeenLayer) → AllBelow 4 ss → put_turn e 4 (ss ++ (backdrop_of b ∷ [])) no_front ≡ started b (laid_as e 5)
+last_laid e b [] h = turn_taken e 4 (backdrop_of b) [] no_front refl ∙ backdrop_laid e b
+last_laid e b (s ∷ ss) h =
+    turn_other e 4 s (ss ++ (backdrop_of b ∷ [])) no_front (λ (same : s.priority ≡ 4). let lt : s.priority < 4 = h.0 in omega (arith, same, lt)) ∙ last_laid e b ss h.1
 
-word_more : (s t : SeenLayer) → s.pixel ≢ 0 → s.priority < 5 → s.target < 6 → IsKnown (target_place s.target) t → t.priority < s.priority → layer_word t < layer_word s
-word_more s t opaque p g k lt =
-    let e = opaque_word s opaque in
-    let d = opaque_word t k.0 in
-    let f = flag_small t.blended in
-    let h = place_small t.target k.2 in
-    let p2 = k.1 in
-    let g2 = k.2 in
-    omega (arith, e, d, f, h, p, g, p2, g2, lt)
+-- so the turns of the code lay the list from front to back
+turns_laid : (e : EngineState) (b : ℕ) (ss : List SeenLayer) → AllBelow 4 ss → laid_all e (front_to_back (ss ++ (backdrop_of b ∷ []))) no_front ≡ put_all e b ss
+unfolding put_all
+turns_laid e b ss h =
+    let s : SeenLayer = backdrop_of b in
+    let all : List SeenLayer = ss ++ (s ∷ []) in
+    let f : FrontPixel = started b (laid_as e 5) in
+    from_laid e 0 5 all no_front
+    ∙ ap (λ (k : FrontPixel). put_turn e 0 all (put_turn e 1 all (put_turn e 2 all (put_turn e 3 all k)))) (last_laid e b ss h)
+    ∙ turn_end e 0 ss s (put_turn e 1 all (put_turn e 2 all (put_turn e 3 all f))) (omega arith)
+    ∙ ap (put_turn e 0 ss)
+    (turn_end e 1 ss s (put_turn e 2 all (put_turn e 3 all f)) (omega arith)
+    ∙ ap (put_turn e 1 ss)
+    (turn_end e 2 ss s (put_turn e 3 all f) (omega arith)
+    ∙ ap (put_turn e 2 ss) (turn_end e 3 ss s f (omega arith))))
 
--- the words of the first two
-abbrev pub pair_of : List SeenLayer → FrontPair
-pair_of [] = no_layers
-pair_of (t ∷ []) = record { top = layer_word t; next = no_word }
-pair_of (t ∷ (u ∷ us)) = record { top = layer_word t; next = layer_word u }
+-- ---- what acts on the first two
 
-pair_small : (ts : List SeenLayer) (place : ℕ) → AllKnown place ts → (pair_of ts).next ≤ no_word
-pair_small [] place h = omega arith
-pair_small (t ∷ []) place h = omega arith
-pair_small (t ∷ (u ∷ us)) place h =
-    let k : IsKnown place u = h.1.0 in
-    let lt = word_small u k.0 k.1 k.2 in
-    omega (arith, lt)
+-- all of a list are opaque
+abbrev AllOpaque : List SeenLayer → Type 0
+AllOpaque [] = Unit {0}
+AllOpaque (s ∷ ss) = (s.pixel ≢ 0) × AllOpaque ss
 
-pair_top_small : (ts : List SeenLayer) (place : ℕ) → AllKnown place ts → (pair_of ts).top ≤ no_word
-pair_top_small [] place h = omega arith
-pair_top_small (t ∷ []) place h =
-    let k : IsKnown place t = h.0 in
-    let lt = word_small t k.0 k.1 k.2 in
-    omega (arith, lt)
-pair_top_small (t ∷ (u ∷ us)) place h =
-    let k : IsKnown place t = h.0 in
-    let lt = word_small t k.0 k.1 k.2 in
-    omega (arith, lt)
+joined_opaque : (ts us : List SeenLayer) → AllOpaque ts → AllOpaque us → AllOpaque (ts ++ us)
+joined_opaque [] us h k = k
+joined_opaque (t ∷ ts) us h k = (h.0, joined_opaque ts us h.1 k)
 
-word_first : (w : ℕ) (p : FrontPair) → w < p.top → with_layer_word w p ≡ record { top = w; next = p.top }
-word_first w p h = grind (arith, h)
-
-word_second : (w : ℕ) (p : FrontPair) → p.top ≤ w → w < p.next → with_layer_word w p ≡ record { top = p.top; next = w }
-word_second w p h k = grind (arith, h, k)
-
-word_past : (w : ℕ) (p : FrontPair) → p.top ≤ w → p.next ≤ w → with_layer_word w p ≡ p
-word_past w p h k = grind (arith, h, k)
-
-ahead_one : (s t : SeenLayer) (ts : List SeenLayer) → s.priority ≤ t.priority → inserted s (t ∷ ts) ≡ s ∷ (t ∷ ts)
-ahead_one s t ts le = grind (arith, le)
-
-put_word : (s : SeenLayer) (ts : List SeenLayer) → s.pixel ≢ 0 → s.priority < 5 → s.target < 6 → AllKnown (target_place s.target) ts →
-    pair_of (inserted s ts) ≡ with_layer_word (layer_word s) (pair_of ts)
-put_word s [] opaque p g h =
-    let lt = word_small s opaque p g in
-    sym (word_first (layer_word s) no_layers (omega (arith, lt)))
-put_word s (t ∷ []) opaque p g h =
-    let k : IsKnown (target_place s.target) t = h.0 in
-    let small = word_small s opaque p g in
-    let pair : FrontPair = record { top = layer_word t; next = no_word } in
-    elim (cases_lt t.priority s.priority) [
-      | inl lt ↦
-          (let more = word_more s t opaque p g k lt in
-          ap pair_of (behind_one s t [] lt) ∙ sym (word_second (layer_word s) pair (omega (arith, more)) (omega (arith, small))))
-      | inr ge ↦
-          (let less = word_less s t opaque p g k (omega (arith, ge)) in
-          ap pair_of (ahead_one s t [] (omega (arith, ge))) ∙ sym (word_first (layer_word s) pair less))
-    ]
-put_word s (t ∷ (u ∷ us)) opaque p g h =
-    let k : IsKnown (target_place s.target) t = h.0 in
-    let j : IsKnown (target_place s.target) u = h.1.0 in
-    let pair : FrontPair = record { top = layer_word t; next = layer_word u } in
-    elim (cases_lt t.priority s.priority) [
-      | inl lt ↦
-          (let more = word_more s t opaque p g k lt in
-          ap pair_of (behind_one s t (u ∷ us) lt)
-          ∙ elim (cases_lt u.priority s.priority) [
-            | inl lt2 ↦
-                (let more2 = word_more s u opaque p g j lt2 in
-                ap (λ (l : List SeenLayer). pair_of (t ∷ l)) (behind_one s u us lt2)
-                ∙ sym (word_past (layer_word s) pair (omega (arith, more)) (omega (arith, more2))))
-            | inr ge2 ↦
-                (let less2 = word_less s u opaque p g j (omega (arith, ge2)) in
-                ap (λ (l : List SeenLayer). pair_of (t ∷ l)) (ahead_one s u us (omega (arith, ge2)))
-                ∙ sym (word_second (layer_word s) pair (omega (arith, more)) less2))
-          ])
-      | inr ge ↦
-          (let less = word_less s t opaque p g k (omega (arith, ge)) in
-          ap pair_of (ahead_one s t (u ∷ us) (omega (arith, ge))) ∙ sym (word_first (layer_word s) pair less))
-    ]
-
--- ---- all of them
-
-abbrev pub Ranked : List SeenLayer → Type 0
-Ranked [] = Unit {0}
-Ranked (s ∷ ss) = (s.priority < 5) × (s.target < 6) × AllPast (target_place s.target) ss × Ranked ss
-
-pub fronts : (ss : List SeenLayer) → Ranked ss → front_words ss ≡ pair_of (front_to_back ss)
-fronts [] h = refl
-fronts (s ∷ ss) h =
-    let L : List SeenLayer = front_to_back ss in
-    let rest : front_words ss ≡ pair_of L = fronts ss h.3 in
-    let known : AllKnown (target_place s.target) L = all_known (target_place s.target) 0 5 ss h.2 in
-    ap (with_layer_word (layer_word s)) rest
-    ∙ elim (cases_eq s.pixel 0) [
-      | inl clear ↦
-          (let a = pair_top_small L (target_place s.target) known in
-          let b = pair_small L (target_place s.target) known in
-          ap (λ (w : ℕ). with_layer_word w (pair_of L)) (clear_word s clear)
-          ∙ word_past no_word (pair_of L) a b
-          ∙ ap pair_of (sym (still_hidden 0 5 s ss clear)))
+at_opaque : (p : ℕ) (ss : List SeenLayer) → AllOpaque (at_priority p ss)
+at_opaque p [] = tt
+at_opaque p (s ∷ ss) =
+    elim (cases_eq s.pixel 0) [
+      | inl clear ↦ subst AllOpaque (sym (hidden p s ss clear)) (at_opaque p ss)
       | inr opaque ↦
-          sym (ap pair_of (put_in 0 5 s ss opaque (omega arith) (let p = h.0 in omega (arith, p)))
-          ∙ put_word s L opaque h.0 h.1 known)
+          elim (cases_eq s.priority p) [
+            | inl same ↦ subst AllOpaque (sym (taken p s ss opaque same)) (opaque, at_opaque p ss)
+            | inr else_ ↦ subst AllOpaque (sym (other p s ss else_)) (at_opaque p ss)
+          ]
     ]
 
--- ---- some layer is there
+from_opaque : (p more : ℕ) (ss : List SeenLayer) → AllOpaque (from_priority p more ss)
+from_opaque p zero ss = tt
+from_opaque p (suc more) ss = joined_opaque (at_priority p ss) (from_priority (suc p) more ss) (at_opaque p ss) (from_opaque (suc p) more ss)
 
-abbrev pub IsFilled : List SeenLayer → Type 0
-IsFilled [] = ⊥
-IsFilled (s ∷ ss) = Unit {0}
+over_opaque : (pixel : ℕ) (l : Laid) (f : FrontPixel) → pixel ≢ 0 → front_over pixel l f ≡ record { top = pixel % 2 ^ 15 + l.second; next = f.top; mark = l.mark }
+over_opaque pixel l f h = grind (arith, h)
 
-inserted_filled : (s : SeenLayer) (ts : List SeenLayer) → IsFilled (inserted s ts)
-inserted_filled s [] = tt
-inserted_filled s (t ∷ ts) = elim (cases_lt t.priority s.priority) [
-  | inl lt ↦ subst IsFilled (sym (behind_one s t ts lt)) tt
-  | inr ge ↦ subst IsFilled (sym (ahead_one s t ts (omega (arith, ge)))) tt
-]
+abbrev kept : EngineState → SeenLayer → ℕ
+kept e s = s.pixel % 2 ^ 15 + flag 15 (is_second_target e s)
 
-pub filled_by : (s : SeenLayer) (ss : List SeenLayer) → s.pixel ≢ 0 → s.priority < 5 → IsFilled (front_to_back (s ∷ ss))
-filled_by s ss opaque p = subst IsFilled (sym (put_in 0 5 s ss opaque (omega arith) (omega (arith, p)))) (inserted_filled s (front_to_back ss))
+colour_kept : (c : ℕ) (b : Bool) → (c % 2 ^ 15 + flag 15 b) % 2 ^ 15 ≡ c % 2 ^ 15
+colour_kept c true = omega arith
+colour_kept c false = omega arith
 
-pub filled_more : (s : SeenLayer) (ss : List SeenLayer) → s.priority < 5 → IsFilled (front_to_back ss) → IsFilled (front_to_back (s ∷ ss))
-filled_more s ss p h = elim (cases_eq s.pixel 0) [
-  | inl clear ↦ subst IsFilled (sym (still_hidden 0 5 s ss clear)) h
-  | inr opaque ↦ filled_by s ss opaque p
-]
+second_kept : (c : ℕ) (b : Bool) → nat_le (2 ^ 15) (c % 2 ^ 15 + flag 15 b) ≡ b
+second_kept c true = (let h : 2 ^ 15 ≤ c % 2 ^ 15 + 2 ^ 15 = omega arith in grind (arith, h))
+second_kept c false = (let h : c % 2 ^ 15 + 0 < 2 ^ 15 = omega arith in grind (arith, h))
+
+-- blending takes no notice of bit 15 of the second pixel
+flagless : (a b p c : ℕ) (s : Bool) → blended a b p (c % 2 ^ 15 + flag 15 s) ≡ blended a b p (c % 2 ^ 15)
+flagless a b p c true =
+    let r : red (c % 2 ^ 15 + 2 ^ 15) ≡ red (c % 2 ^ 15) = omega arith in
+    let g : green (c % 2 ^ 15 + 2 ^ 15) ≡ green (c % 2 ^ 15) = omega arith in
+    let u : blue (c % 2 ^ 15 + 2 ^ 15) ≡ blue (c % 2 ^ 15) = omega arith in
+    let f : ℕ → ℕ → ℕ = λ x y. min 31 ((x * held a + y * held b) / 16) in
+    ap (λ (n : ℕ). f (red p) n + 32 * f (green p) (green (c % 2 ^ 15 + 2 ^ 15)) + 1024 * f (blue p) (blue (c % 2 ^ 15 + 2 ^ 15)) + 32768 * top_bit p) r
+    ∙ ap (λ (n : ℕ). f (red p) (red (c % 2 ^ 15)) + 32 * f (green p) n + 1024 * f (blue p) (blue (c % 2 ^ 15 + 2 ^ 15)) + 32768 * top_bit p) g
+    ∙ ap (λ (n : ℕ). f (red p) (red (c % 2 ^ 15)) + 32 * f (green p) (green (c % 2 ^ 15)) + 1024 * f (blue p) n + 32768 * top_bit p) u
+flagless a b p c false = ap (blended a b p) (let z : c % 2 ^ 15 + 0 ≡ c % 2 ^ 15 = omega arith in z)
+
+-- the mark of a layer tells whether it may blend, and whether its brightness may change
+abbrev mark_of : Bool → Bool → ℕ → ℕ
+mark_of semi first k = mark_blended semi (if first then effect_mark k else 0)
+
+blends_by : (semi first : Bool) (k : ℕ) → nat_le 2 (mark_of semi first k) ≡ (semi || ((k == 1) && first))
+blends_by true first k = grind arith
+blends_by false true k = grind arith
+blends_by false false k = grind arith
+
+changes_by : (semi first : Bool) (k : ℕ) → mark_of semi first k % 2 ≡ (if first && nat_le 2 k then 1 else 0)
+changes_by true true k = grind arith
+changes_by true false k = grind arith
+changes_by false true k = grind arith
+changes_by false false k = grind arith
+
+changed_alone : (e : EngineState) (top next mark : ℕ) (first : Bool) →
+    finished e (if first && nat_le 2 (effect e) then 1 else 0) (record { top = top; next = next; mark = mark })
+    ≡ (if first then brightness_changed e (top % 2 ^ 15) else top % 2 ^ 15)
+changed_alone e top next mark false = refl
+changed_alone e top next mark true = grind arith
+
+by_kind : (e : EngineState) (both : Bool) (one : ℕ) (f : FrontPixel) →
+    finished e (if both then 2 else one) f ≡ (if both then blended (eva e) (evb e) (f.top % 2 ^ 15) f.next else finished e one f)
+by_kind e true one f = refl
+by_kind e false one f = refl
+
+-- the first layer over whatever is behind it
+first_done : (e : EngineState) (t : SeenLayer) (next : ℕ) →
+    (let mark : ℕ = (laid_of e t).mark in
+    let f : FrontPixel = record { top = kept e t; next = next; mark = mark } in
+    finished e (front_kind f) f)
+    ≡ (if (t.blended || ((effect e == 1) && is_first_target e t)) && nat_le (2 ^ 15) next then blended (eva e) (evb e) (colour_of t) next else top_alone e t)
+first_done e t next =
+    let first : Bool = is_first_target e t in
+    let mark : ℕ = (laid_of e t).mark in
+    let f : FrontPixel = record { top = kept e t; next = next; mark = mark } in
+    let both : Bool = (t.blended || ((effect e == 1) && first)) && nat_le (2 ^ 15) next in
+    ap (λ (b : Bool). finished e (if b && nat_le (2 ^ 15) next then 2 else mark % 2) f) (blends_by t.blended first (effect e))
+    ∙ ap (λ (n : ℕ). finished e (if both then 2 else n) f) (changes_by t.blended first (effect e))
+    ∙ by_kind e both (if first && nat_le 2 (effect e) then 1 else 0) f
+    ∙ ap (λ (n : ℕ). if both then blended (eva e) (evb e) (kept e t % 2 ^ 15) next else n) (changed_alone e (kept e t) next mark first)
+    ∙ ap (λ (n : ℕ). if both then blended (eva e) (evb e) n next else (if first then brightness_changed e n else n)) (colour_kept t.pixel (is_second_target e t))
+
+and_false : (b : Bool) → (b && false) ≡ false
+and_false true = refl
+and_false false = refl
+
+and_turned : (a b : Bool) → (a && b) ≡ (b && a)
+and_turned true true = refl
+and_turned true false = refl
+and_turned false true = refl
+and_turned false false = refl
+
+two_done : (e : EngineState) (t u : SeenLayer) (us : List SeenLayer) →
+    (let f : FrontPixel = record { top = kept e t; next = kept e u; mark = (laid_of e t).mark } in finished e (front_kind f) f) ≡ with_effects e (t ∷ (u ∷ us))
+two_done e t u us =
+    let may : Bool = t.blended || ((effect e == 1) && is_first_target e t) in
+    first_done e t (kept e u)
+    ∙ ap (λ (b : Bool). if may && b then blended (eva e) (evb e) (colour_of t) (kept e u) else top_alone e t) (second_kept u.pixel (is_second_target e u))
+    ∙ ap (λ (b : Bool). if b then blended (eva e) (evb e) (colour_of t) (kept e u) else top_alone e t) (and_turned may (is_second_target e u))
+    ∙ ap (λ (n : ℕ). if blends e t u then n else top_alone e t) (flagless (eva e) (evb e) (colour_of t) u.pixel (is_second_target e u))
+
+one_done : (e : EngineState) (t : SeenLayer) →
+    (let f : FrontPixel = record { top = kept e t; next = 0; mark = (laid_of e t).mark } in finished e (front_kind f) f) ≡ with_effects e (t ∷ [])
+one_done e t =
+    let may : Bool = t.blended || ((effect e == 1) && is_first_target e t) in
+    first_done e t 0
+    ∙ ap (λ (b : Bool). if b then blended (eva e) (evb e) (colour_of t) 0 else top_alone e t) (and_false may)
+
+-- of a list of opaque layers
+abbrev front_of : EngineState → List SeenLayer → FrontPixel
+front_of e [] = no_front
+front_of e (t ∷ []) = record { top = kept e t; next = 0; mark = (laid_of e t).mark }
+front_of e (t ∷ (u ∷ us)) = record { top = kept e t; next = kept e u; mark = (laid_of e t).mark }
+
+front_top : (e : EngineState) (t : SeenLayer) (ts : List SeenLayer) → (front_of e (t ∷ ts)).top ≡ kept e t
+front_top e t [] = refl
+front_top e t (u ∷ us) = refl
+
+laid_front : (e : EngineState) (ts : List SeenLayer) → AllOpaque ts → laid_all e ts no_front ≡ front_of e ts
+laid_front e [] h = refl
+laid_front e (t ∷ []) h = over_opaque t.pixel (laid_of e t) no_front h.0
+laid_front e (t ∷ (u ∷ us)) h =
+    ap (put_layer e t) (laid_front e (u ∷ us) h.1)
+    ∙ over_opaque t.pixel (laid_of e t) (front_of e (u ∷ us)) h.0
+    ∙ ap (λ (n : ℕ). let f : FrontPixel = record { top = kept e t; next = n; mark = (laid_of e t).mark } in f) (front_top e u us)
+
+done : (e : EngineState) (shown : Bool) (ts : List SeenLayer) → finished_where shown e (front_of e ts) ≡ effects_where shown e ts
+done e true [] = refl
+done e false [] = refl
+done e true (t ∷ []) = one_done e t
+done e true (t ∷ (u ∷ us)) = two_done e t u us
+done e false (t ∷ []) = colour_kept t.pixel (is_second_target e t)
+done e false (t ∷ (u ∷ us)) = colour_kept t.pixel (is_second_target e t)
+
+-- ---- the layers of a place
+
+two_bits : (word : ℕ) → bits 0 2 word < 4
+two_bits word = omega arith
+
+-- so the rows make the composed pixel
+pub composes : (e : EngineState) (line x b : ℕ) (p : LayerPixels) → p.objects.priority < 4 →
+    (let shown : ℕ = shown_by_windows e p.objects.window line x in finished_where (bit 5 shown) e (put_all e b (shown_layers e shown p)))
+    ≡ composed_pixel e line x b p
+unfolding composed_pixel
+composes e line x b p small =
+    let shown : ℕ = shown_by_windows e p.objects.window line x in
+    let layers : List SeenLayer = layers_of e shown b p in
+    let below : AllBelow 4 (shown_layers e shown p) =
+    (small, (two_bits (bgcnt e 0), (two_bits (bgcnt e 1), (two_bits (bgcnt e 2), (two_bits (bgcnt e 3), tt))))) in
+    ap (finished_where (bit 5 shown) e)
+    (sym (turns_laid e b (shown_layers e shown p) below) ∙ laid_front e (front_to_back layers) (from_opaque 0 5 layers))
+    ∙ done e (bit 5 shown) (front_to_back layers)

@@ -1,11 +1,13 @@
+mod Words
 pub mod FrontLemmas
-pub mod MixLemmas
+pub mod LineLemmas
 pub mod PlainLemmas
 pub mod StopLemmas
 pub mod Framed
 pub mod Colours
 pub mod VideoLaws
 pub mod SavedScans
+pub mod SavedWalks
 pub mod SavedPorts
 pub mod SavedLoops
 pub mod SavedKept

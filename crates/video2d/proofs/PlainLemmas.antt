@@ -1,21 +1,15 @@
-use Rattle.std.proofs.Common.{ℕ, zero, suc, Bool, true, false, ◌≡◌, ◌≢◌, ◌<◌, ◌+◌, ◌%◌, ◌^◌, ◌==◌, ◌&&◌, ◌||◌, inl, inr, List, [], ◌∷◌, ◌++◌, if◌then◌else◌, refl, sym, ◌∙◌, ap, subst, arith}
-use Rattle.std.proofs.lemmas.Bool.{cases_eq}
-use Rattle.ds_base.specs.Bits.{bit, bits}
-use Rattle.line_lanes.specs.Pixels.{blended}
-use Rattle.obj2d.specs.ObjectLayer.{blank_pixel, object_pixel, plainly}
-use Rattle.obj2d.specs.declared.layers.ObjectPixel.{ObjectPixel}
-use Rattle.obj2d.proofs.OffLemmas.{no_object, object_small}
-use Rattle.vram_banks.specs.Colours.{palette_colour}
-use Rattle.vram_banks.specs.Cells.{Banks}
-use Rattle.video2d.specs.Backgrounds.{background_pixel}
-use Rattle.video2d.specs.Effects.{blends, brightness_changed, colour_of, effect, effects_where, eva, evb, front_colour, is_first_target, is_second_target, top_alone, with_effects}
-use Rattle.video2d.specs.Engines.{EngineState, bgcnt, bldcnt, dispcnt}
-use Rattle.video2d.specs.declared.engines.Engine.{Engine}
-use Rattle.video2d.specs.Layers.{SeenLayer, at_priority, backdrop_of, from_priority, front_to_back, layers_of, seen_background, seen_objects}
-use Rattle.video2d.specs.Pictures.{composed_pixel, display_of, layered_pixel, pixels_at}
-use Rattle.video2d.specs.Windows.{shown_by_windows}
-use Rattle.video2d.specs.declared.layers.LayerPixels.{LayerPixels}
-use Rattle.video2d.specs.rows.Plain.{background_seen, backgrounds_seen, calm_over, calm_pixel, has_no_backgrounds, is_calm, is_plain_engine, laid_at, laid_over, over_at, plain_pixel}
+use Rattle.video2d.proofs.Words.{ℕ, zero, suc, Bool, true, false, ◌≡◌, ◌≢◌, ◌<◌, ◌+◌, ◌%◌, ◌^◌, ◌==◌, ◌&&◌, ◌||◌, inl, inr, List, [], ◌∷◌, ◌++◌}
+use Rattle.video2d.proofs.Words.{if◌then◌else◌, refl, sym, ◌∙◌, ap, subst, arith, cases_eq, bit, bits, blended, object_pixel, ObjectPixel}
+use Rattle.video2d.proofs.Words.{object_small, palette_colour, Banks, background_pixel, blends, brightness_changed, colour_of, effect, effects_where}
+use Rattle.video2d.proofs.Words.{eva, evb, front_colour, is_first_target, is_second_target, top_alone, with_effects, EngineState, bgcnt, dispcnt}
+use Rattle.video2d.proofs.Words.{Engine, LayerPixels, SeenLayer, at_priority, backdrop_of, from_priority, front_to_back, layers_of, seen_objects}
+use Rattle.video2d.proofs.Words.{composed_pixel, display_of, layered_pixel, pixels_at, shown_by_windows, background_seen, calm_over, laid_over}
+use Rattle.video2d.proofs.Words.{over_at}
+use Rattle.obj2d.specs.ObjectLayer.{blank_pixel}
+use Rattle.obj2d.proofs.OffLemmas.{no_object}
+use Rattle.video2d.specs.Engines.{bldcnt}
+use Rattle.video2d.specs.Layers.{seen_background}
+use Rattle.video2d.specs.rows.Plain.{backgrounds_seen, calm_pixel, has_no_backgrounds, is_calm, is_plain_engine, laid_at, plain_pixel}
 use Rattle.video2d.proofs.FrontLemmas.{hidden, other, still_hidden, taken}
 
 -- Where no window, no object and no effect can act, what is seen is the layer in front.
@@ -273,12 +267,6 @@ calm_blank v colours which e line x =
     ∙ ap (laid_at 1 ss)
     (laid_clear 2 o ss (laid_at 3 all b) refl
     ∙ ap (laid_at 2 ss) (laid_clear 3 o ss b refl))))
-
--- of the objects their colours and priorities alone count
-pub calm_plainly : (v : Banks) (colours : List ℕ) (which : Engine) (e : EngineState) (line x : ℕ) (p : ObjectPixel) →
-    calm_over v colours which e line x (plainly p) ≡ calm_over v colours which e line x p
-unfolding calm_over
-calm_plainly v colours which e line x p = refl
 
 windows_none : (w z t : ℕ) → ((w == 0) && ((z == 0) && (t == 0))) ≡ true → (w ≡ 0) × (z ≡ 0) × (t ≡ 0)
 windows_none w z t h = grind (arith, h)

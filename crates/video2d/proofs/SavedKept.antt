@@ -1,18 +1,12 @@
-use Rattle.std.proofs.Common.{ℕ, zero, suc, ◌≡◌, ◌≢◌, ◌⊎◌, inl, inr, ◌<◌, ◌≤◌, ◌+◌, ◌-◌, ◌*◌, ◌/◌, ◌%◌, ◌^◌, ◌==◌, nat_lt, true, false, List, replicate, Option, Some, None, bit_and, slice_index, slice_set, refl, sym, ◌∙◌, ap, subst, arith}
-use Rattle.std.specs.Int.Bits.{and_block, and_le_l}
-use Rattle.std.proofs.lemmas.Bool.{cases_eq}
-use Rattle.std.proofs.lemmas.List.{get_or-replicate, get_or-set_other, get_or-set_same, length-replicate, length-set}
-use Rattle.ds_base.proofs.Choices.{equal, true_or_false}
-use Rattle.ds_base.specs.Numbers.{number_at, width_bytes, with_number, zeroes}
-use Rattle.ds_base.specs.declared.memories.Width.{Width}
-use Rattle.ds_base.specs.declared.memories.Width.TheVariants.{Byte, Half, Word}
-use Rattle.ds_state.specs.Laws.{Keeps, made}
+use Rattle.video2d.proofs.Words.{ℕ, zero, suc, ◌≡◌, ◌≢◌, ◌⊎◌, inl, inr, ◌<◌, ◌≤◌, ◌+◌, ◌-◌, ◌*◌, ◌/◌, ◌%◌, ◌^◌, ◌==◌, nat_lt, true, false, List}
+use Rattle.video2d.proofs.Words.{replicate, Option, Some, None, bit_and, slice_index, slice_set, refl, sym, ◌∙◌, ap, subst, arith, Format, and_block}
+use Rattle.video2d.proofs.Words.{cases_eq, get_or-replicate, get_or-set_other, get_or-set_same, length-replicate, length-set, equal, number_at}
+use Rattle.video2d.proofs.Words.{width_bytes, with_number, zeroes, Width, Byte, Half, Word, Keeps, made, engine_bytes, engine_row_at, kept_bits_at}
+use Rattle.video2d.proofs.Words.{ports_format, row_width, DisplayRow, Engine}
+use Rattle.std.specs.Int.Bits.{and_le_l}
+use Rattle.ds_base.proofs.Choices.{true_or_false}
 use Rattle.video2d.proofs.SavedPorts.{ArePorts, HalfPut, WordPut, agrees_mask, agrees_within, all_agree, half_put, kept_small, mask_at, step_agrees, step_by, step_on, step_past, steps, word_put}
-use Rattle.video2d.specs.DisplayRegisters.{engine_bytes, engine_row_at}
-use Rattle.video2d.specs.Invariants.{kept_bits_at}
-use Rattle.video2d.specs.Saved.{ports_format, register_if, registers_from, row_width}
-use Rattle.video2d.specs.declared.display_registers.DisplayRow.{DisplayRow}
-use Rattle.video2d.specs.declared.engines.Engine.{Engine}
+use Rattle.video2d.proofs.SavedWalks.{register_if, registers_from, walked}
 
 -- Ports that are made of numbers which keep their rules have the bits that they keep and no others.
 
@@ -187,8 +181,13 @@ none_are which = record {
   kept = λ i lt. none_kept (slice_index (replicate 112 0) i) (kept_bits_at which i) (get_or-replicate 112 i 0 0 lt);
 }
 
-pub ports_kept : (which : Engine) (tick : ℕ) (s : List ℕ) → Keeps (ports_format which) tick s → made (ports_format which) s ≡ s → ArePorts which s
-unfolding ports_format
-ports_kept which tick s keeps again =
+walk_kept : (which : Engine) (tick : ℕ) (s : List ℕ) → Keeps (registers_from which 56 0 (zeroes engine_bytes)) tick s
+    → made (registers_from which 56 0 (zeroes engine_bytes)) s ≡ s → ArePorts which s
+walk_kept which tick s keeps again =
     subst (λ (ports : List ℕ). ArePorts which ports) again
     (made_are which 56 tick s 0 (zeroes engine_bytes) (all_agree which) (none_are which) keeps)
+
+pub ports_kept : (which : Engine) (tick : ℕ) (s : List ℕ) → Keeps (ports_format which) tick s → made (ports_format which) s ≡ s → ArePorts which s
+ports_kept which tick s keeps again =
+    walk_kept which tick s (subst (λ (f : Format (List ℕ) (List ℕ)). Keeps f tick s) (walked which) keeps)
+    (subst (λ (f : Format (List ℕ) (List ℕ)). made f s ≡ s) (walked which) again)

@@ -1,26 +1,17 @@
-use Rattle.std.proofs.Common.{rules, ℕ, zero, suc, ◌≡◌, ◌<◌, ◌≤◌, ◌+◌, ◌-◌, ◌*◌, ◌/◌, ◌%◌, ◌^◌, ◌==◌, not, Bool, true, false, List, [], ◌∷◌, length, slice_index, Ok, bit_and, refl, sym, ◌∙◌, ap, subst, arith}
-use Rattle.std.specs.Int.Bits.{and_le_r, and_mask}
-use Rattle.std.specs.List.{AllByRecursion}
-use Rattle.ds_base.proofs.Choices.{equal, is_equal}
-use Rattle.ds_base.specs.Bits.{bit, flag}
+use Rattle.video2d.proofs.Words.{ℕ, zero, suc, ◌≡◌, ◌<◌, ◌≤◌, ◌+◌, ◌-◌, ◌*◌, ◌/◌, ◌%◌, ◌^◌, ◌==◌, Bool, true, false, List, [], ◌∷◌, length}
+use Rattle.video2d.proofs.Words.{slice_index, Ok, bit_and, refl, sym, ◌∙◌, ap, subst, arith, and_le_r, AllByRecursion, equal, is_equal, bit, flag}
+use Rattle.video2d.proofs.Words.{kept_twice, IsExact, Keeps, StandsFor, made, Left, read_format, display_row, EngineState, PointState, IsColour}
+use Rattle.video2d.proofs.Words.{IsDispstat, IsEngine, IsFrame, IsPoint, pixel_format, ScanState, scan_before, StatusState, VideoState, Dispstat}
+use Rattle.video2d.proofs.Words.{Engine, A, B}
+use Rattle.std.proofs.Common.{rules, not}
+use Rattle.std.specs.Int.Bits.{and_mask}
 use Rattle.ds_state.proofs.Exact.{one_spelling, reads_exactly, round_trips}
-use Rattle.ds_state.proofs.Kept.{kept_twice}
 use Rattle.ds_state.proofs.Masks.{kept_top}
-use Rattle.ds_state.specs.Laws.{IsExact, Keeps, StandsFor, made}
-use Rattle.ds_state.specs.Reading.{Left, read_format}
 use Rattle.video2d.proofs.SavedKept.{ports_kept}
 use Rattle.video2d.proofs.SavedPorts.{ArePorts, ports_exact, ports_stand}
 use Rattle.video2d.proofs.SavedScans.{line_small, scans_follow}
-use Rattle.video2d.specs.DisplayRegisters.{display_row}
-use Rattle.video2d.specs.Engines.{EngineState, PointState}
-use Rattle.video2d.specs.Invariants.{IsColour, IsDispstat, IsEngine, IsFrame, IsPoint}
-use Rattle.video2d.specs.Saved.{IsSavedVideo, VideoIsSaved, frame_format, frame_pixels, is_line_of, is_phase_of, pixel_format, point_format, status_bits, status_of_bits, video_format}
-use Rattle.video2d.specs.Scans.{ScanState, scan_before}
-use Rattle.video2d.specs.Statuses.{StatusState, status_word}
-use Rattle.video2d.specs.Videos.{VideoState}
-use Rattle.video2d.specs.declared.display_registers.DisplayRegister.TheVariants.{Dispstat}
-use Rattle.video2d.specs.declared.engines.Engine.{Engine}
-use Rattle.video2d.specs.declared.engines.Engine.TheVariants.{A, B}
+use Rattle.video2d.specs.Saved.{IsSavedVideo, VideoIsSaved, frame_format, frame_pixels, is_line_of, is_phase_of, point_format, status_bits, status_of_bits, video_format}
+use Rattle.video2d.specs.Statuses.{status_word}
 
 -- What the display owes of its format.
 

@@ -1,16 +1,13 @@
-use Rattle.std.proofs.Common.{ℕ, zero, suc, ◌≡◌, ◌<◌, ◌+◌, ◌-◌, ◌==◌, List, ◌++◌, Option, Some, None, Ok, Err, refl, sym, ◌∙◌, subst, arith}
-use Rattle.ds_base.proofs.Choices.{either_by}
-use Rattle.ds_base.specs.Numbers.{number_at, width_bytes, with_number}
-use Rattle.ds_base.specs.declared.memories.Width.{Width}
-use Rattle.ds_base.specs.declared.memories.Width.TheVariants.{Half, Word}
-use Rattle.ds_state.specs.Formats.{bytes_written, code_bytes, keeps_mask, number_code}
+use Rattle.video2d.proofs.Words.{ℕ, zero, suc, ◌≡◌, ◌<◌, ◌+◌, ◌-◌, ◌==◌, List, ◌++◌, Option, Some, None, Ok, refl, sym, ◌∙◌, subst, arith, either_by}
+use Rattle.video2d.proofs.Words.{number_at, width_bytes, with_number, Width, Half, Word, bytes_written, keeps_mask, number_code, Left, read_format}
+use Rattle.video2d.proofs.Words.{engine_row_at, row_width, DisplayRow, Engine}
+use Rattle.std.proofs.Common.{Err}
+use Rattle.ds_state.specs.Formats.{code_bytes}
 use Rattle.ds_state.specs.declared.unpacker.Unpacked.{Unpacked}
 use Rattle.ds_state.specs.declared.unpacker.Unpacked.TheVariants.{NoMemory, Bad}
-use Rattle.ds_state.specs.Reading.{Fails, Left, ReadAnswer, ◌>>=◌, read_code, read_format, ruled}
-use Rattle.video2d.specs.DisplayRegisters.{HasByteAt, engine_row_at}
-use Rattle.video2d.specs.Saved.{register_if, registers_from, row_width}
-use Rattle.video2d.specs.declared.display_registers.DisplayRow.{DisplayRow}
-use Rattle.video2d.specs.declared.engines.Engine.{Engine}
+use Rattle.ds_state.specs.Reading.{Fails, ReadAnswer, ◌>>=◌, read_code, ruled}
+use Rattle.video2d.specs.DisplayRegisters.{HasByteAt}
+use Rattle.video2d.proofs.SavedWalks.{register_if, registers_from}
 
 -- The steps of the loops over an engine's registers.
 

@@ -1,19 +1,12 @@
-use Rattle.std.proofs.Common.{ℕ, zero, suc, ◌≡◌, ◌≢◌, ◌⊎◌, inl, inr, ◌<◌, ◌≤◌, ◌+◌, ◌-◌, ◌*◌, ◌/◌, ◌%◌, ◌^◌, ◌==◌, ◌&&◌, nat_le, Bool, true, List, length, Option, Some, None, bit_and, slice_index, slice_set, refl, sym, ◌∙◌, ap, arith}
-use Rattle.std.specs.Int.Bits.{and_block, and_le_r}
-use Rattle.std.proofs.lemmas.Bool.{cases_eq}
+use Rattle.video2d.proofs.Words.{ℕ, zero, suc, ◌≡◌, ◌≢◌, ◌⊎◌, inl, inr, ◌<◌, ◌≤◌, ◌+◌, ◌-◌, ◌*◌, ◌/◌, ◌%◌, ◌^◌, ◌==◌, ◌&&◌, nat_le, Bool, true, List}
+use Rattle.video2d.proofs.Words.{length, Option, Some, None, bit_and, slice_index, slice_set, refl, sym, ◌∙◌, ap, subst, arith, Format, and_block}
+use Rattle.video2d.proofs.Words.{and_le_r, cases_eq, get_or-replicate, get_or-set_other, get_or-set_same, length-replicate, length-set, equal}
+use Rattle.video2d.proofs.Words.{is_equal, number_at, width_bytes, with_number, zeroes, Width, Byte, Half, Word, IsExact, Keeps, StandsFor, made}
+use Rattle.video2d.proofs.Words.{engine_bytes, engine_row_at, kept_bits_at, kept_by, ports_format, row_width, DisplayRow, Engine, A, B}
 use Rattle.std.proofs.lemmas.Grind.{same_number_lists}
-use Rattle.std.proofs.lemmas.List.{get_or-replicate, get_or-set_other, get_or-set_same, length-replicate, length-set}
-use Rattle.ds_base.proofs.Choices.{both, equal, is_equal}
-use Rattle.ds_base.specs.Numbers.{number_at, width_bytes, with_number, zeroes}
-use Rattle.ds_base.specs.declared.memories.Width.{Width}
-use Rattle.ds_base.specs.declared.memories.Width.TheVariants.{Byte, Half, Word}
-use Rattle.ds_state.specs.Laws.{IsExact, Keeps, Says, StandsFor, made}
-use Rattle.video2d.specs.DisplayRegisters.{engine_bytes, engine_row_at}
-use Rattle.video2d.specs.Invariants.{kept_bits_at, kept_by}
-use Rattle.video2d.specs.Saved.{ports_format, register_if, registers_from, row_width}
-use Rattle.video2d.specs.declared.display_registers.DisplayRow.{DisplayRow}
-use Rattle.video2d.specs.declared.engines.Engine.{Engine}
-use Rattle.video2d.specs.declared.engines.Engine.TheVariants.{A, B}
+use Rattle.ds_base.proofs.Choices.{both}
+use Rattle.ds_state.proofs.Standing.{Says}
+use Rattle.video2d.proofs.SavedWalks.{register_if, registers_from, walked}
 
 -- An engine's registers in bytes.
 
@@ -201,10 +194,13 @@ ports_say which zero tick at m P long h all = all m (λ i lt. refl)
 ports_say which (suc n) tick at m P long h all =
     row_says which n tick (λ at m P long h all. ports_say which n tick at m P long h all) at m P (engine_row_at which at) long h all
 
-pub ports_exact : (which : Engine) (tick : ℕ) → IsExact (ports_format which) tick
-unfolding ports_format zeroes
-ports_exact which tick =
+walk_exact : (which : Engine) (tick : ℕ) → IsExact (registers_from which 56 0 (zeroes engine_bytes)) tick
+unfolding zeroes
+walk_exact which tick =
     ports_say which 56 tick 0 (zeroes engine_bytes) (λ s. Unit {0}) (length-replicate {A = ℕ} 112 0) (all_agree which) (λ a below. tt)
+
+pub ports_exact : (which : Engine) (tick : ℕ) → IsExact (ports_format which) tick
+ports_exact which tick = subst (λ (f : Format (List ℕ) (List ℕ)). IsExact f tick) (sym (walked which)) (walk_exact which tick)
 
 -- ---- an engine's ports stand for themselves
 
@@ -444,9 +440,9 @@ ports_keep which zero tick s are at m h = tt
 ports_keep which (suc n) tick s are at m h =
     row_keeps which n tick s are (λ at m h. ports_keep which n tick s are at m h) at m (engine_row_at which at) h
 
-pub ports_stand : (which : Engine) (tick : ℕ) (s : List ℕ) → ArePorts which s → StandsFor (ports_format which) tick s
-unfolding ports_format zeroes
-ports_stand which tick s are = (
+walk_stands : (which : Engine) (tick : ℕ) (s : List ℕ) → ArePorts which s → StandsFor (registers_from which 56 0 (zeroes engine_bytes)) tick s
+unfolding zeroes
+walk_stands which tick s are = (
   ports_keep which 56 tick s are 0 (zeroes engine_bytes) (all_agree which),
   ports_made which 56 s are 0 (zeroes engine_bytes) (all_agree which)
       (record {
@@ -455,3 +451,6 @@ ports_stand which tick s are = (
         rest = λ i le here. get_or-replicate 112 i 0 0 here;
       }),
 )
+
+pub ports_stand : (which : Engine) (tick : ℕ) (s : List ℕ) → ArePorts which s → StandsFor (ports_format which) tick s
+ports_stand which tick s are = subst (λ (f : Format (List ℕ) (List ℕ)). StandsFor f tick s) (sym (walked which)) (walk_stands which tick s are)

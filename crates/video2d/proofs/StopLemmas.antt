@@ -1,16 +1,11 @@
-use Rattle.std.proofs.Common.{ℕ, zero, suc, false, ◌≡◌, ◌≢◌, ◌+◌, ◌-◌, ◌*◌, ◌<◌, ◌≤◌, ◌==◌, ◌||◌, ◌∷◌, inl, inr, List, Option, Some, None, map, refl, sym, ◌∙◌, ap, subst, arith}
-use Rattle.std.proofs.lemmas.Bool.{cases_eq}
+use Rattle.video2d.proofs.Words.{ℕ, zero, suc, false, ◌≡◌, ◌≢◌, ◌+◌, ◌-◌, ◌*◌, ◌<◌, ◌≤◌, ◌==◌, ◌||◌, ◌∷◌, inl, inr, List, Option, Some, None, map}
+use Rattle.video2d.proofs.Words.{refl, sym, ◌∙◌, ap, subst, arith, cases_eq, range_with_len, bit, bits, Stop, EngineState, dispcnt, first_need}
+use Rattle.video2d.proofs.Words.{needs_of_object, needs_of_objects, Engine, AreAmong}
 use Rattle.std.proofs.lemmas.Nat.Bits.{bit_at_or}
 use Rattle.std.specs.Int.{bit_at}
 use Rattle.std.specs.Int.Bits.{bit_or}
-use Rattle.std.specs.List.{range_with_len}
-use Rattle.ds_base.specs.Bits.{bit, bits}
-use Rattle.ds_base.specs.declared.left_out.Stop.{Stop}
 use Rattle.obj2d.specs.Attributes.{mode, object_at, object_has_mosaic}
-use Rattle.video2d.specs.Engines.{EngineState, dispcnt}
-use Rattle.video2d.specs.Stops.{first_need, needs_of_object, needs_of_objects}
-use Rattle.video2d.specs.declared.engines.Engine.{Engine}
-use Rattle.video2d.specs.rows.Needs.{AreAmong, IsAmong, NeedNothing}
+use Rattle.video2d.specs.rows.Needs.{IsAmong, NeedNothing}
 
 -- The first need of numbers, one after another.
 

@@ -1,30 +1,21 @@
-use Rattle.std.proofs.Common.{ℕ, zero, suc, ◌≡◌, ◌≢◌, ◌⊎◌, inl, inr, ◌<◌, ◌≤◌, ◌+◌, ◌*◌, ◌/◌, ◌%◌, ◌^◌, ◌==◌, true, false, nat_lt, List, replicate, Option, Some, None, bit_and, slice_index, slice_set, refl, sym, ◌∙◌, ap, subst, arith}
-use Rattle.std.proofs.lemmas.Bool.{cases_eq}
-use Rattle.std.proofs.lemmas.List.{get_or-replicate, get_or-set_other, get_or-set_same, length-replicate, length-set}
-use Rattle.ds_base.proofs.Choices.{either, either_by}
-use Rattle.std.specs.List.{AllByRecursion}
-use Rattle.ds_base.specs.Bits.{bit}
-use Rattle.ds_base.specs.Numbers.{aligned_down, is_within, number_at, put_by, zeroes}
-use Rattle.ds_base.specs.declared.left_out.Stop.{Stop}
-use Rattle.ds_base.specs.declared.memories.Width.{Width}
-use Rattle.ds_base.specs.declared.memories.Width.TheVariants.{Byte, Half, Word}
+use Rattle.video2d.proofs.Words.{ℕ, zero, suc, ◌≡◌, ◌≢◌, ◌⊎◌, inl, inr, ◌<◌, ◌≤◌, ◌+◌, ◌*◌, ◌/◌, ◌%◌, ◌^◌, ◌==◌, true, false, nat_lt, List, replicate}
+use Rattle.video2d.proofs.Words.{Option, Some, None, bit_and, slice_index, slice_set, refl, sym, ◌∙◌, ap, subst, arith, cases_eq, get_or-replicate}
+use Rattle.video2d.proofs.Words.{get_or-set_other, get_or-set_same, length-replicate, length-set, either, either_by, AllByRecursion, bit, number_at}
+use Rattle.video2d.proofs.Words.{zeroes, Stop, Width, Byte, Half, Word, kept_twice, Banks, display_row, engine_bytes, engine_row_at, EngineState}
+use Rattle.video2d.proofs.Words.{PointState, IsColour, IsEngine, IsFrame, IsPoint, IsDispstat, kept_bits_at, kept_by, engine_line, ScanState}
+use Rattle.video2d.proofs.Words.{scan_after, StatusState, VideoState, Dispstat, DisplayRow, Engine, A, B}
+use Rattle.ds_base.specs.Numbers.{aligned_down, is_within, put_by}
 use Rattle.ds_base.specs.declared.processors.Proc.{Proc}
 use Rattle.ds_base.specs.declared.processors.Proc.TheVariants.{Nine, Seven}
-use Rattle.ds_state.proofs.Kept.{kept_twice}
-use Rattle.vram_banks.specs.Cells.{Banks}
 use Rattle.video2d.proofs.Colours.{laid_frame, line_colours, line_long}
-use Rattle.video2d.specs.DisplayRegisters.{display_row, engine_bytes, engine_row_at, kept_at}
-use Rattle.video2d.specs.Engines.{EngineState, PointState, coordinate_at, engine_at_boot, engine_byte_by, point_started, point_stepped, point_written, points_after, points_started, points_stepped, word_of_28, word_of_half}
-use Rattle.video2d.specs.Invariants.{IsColour, IsEngine, IsFrame, IsPoint, IsDispstat, IsVideo, StayTelling, StaysVideo, TellScan, TellsScan, kept_bits_at, kept_by}
-use Rattle.video2d.specs.Pictures.{engine_line, line_place, screen_of}
+use Rattle.video2d.specs.DisplayRegisters.{kept_at}
+use Rattle.video2d.specs.Engines.{coordinate_at, engine_at_boot, engine_byte_by, point_started, point_stepped, point_written, points_after, points_started, points_stepped, word_of_28, word_of_half}
+use Rattle.video2d.specs.VideoLaws.{IsVideo, StayTelling, StaysVideo, TellScan, TellsScan}
+use Rattle.video2d.specs.Pictures.{line_place, screen_of}
 use Rattle.video2d.specs.Ports.{video_port}
-use Rattle.video2d.specs.Scans.{ScanState, blanks_drawn_line, line_after, scan_after}
-use Rattle.video2d.specs.Statuses.{StatusState, status_blanked, status_started, status_written, with_half_byte}
-use Rattle.video2d.specs.Videos.{VideoState, drawn_with, engine_of, hblank_set, line_drawn, unless_stop, video_after_event, video_blanked, video_byte_written, video_byte_written_by, video_happened, video_line_started, video_stop}
-use Rattle.video2d.specs.declared.display_registers.DisplayRegister.TheVariants.{Dispstat}
-use Rattle.video2d.specs.declared.display_registers.DisplayRow.{DisplayRow}
-use Rattle.video2d.specs.declared.engines.Engine.{Engine}
-use Rattle.video2d.specs.declared.engines.Engine.TheVariants.{A, B}
+use Rattle.video2d.specs.Scans.{blanks_drawn_line, line_after}
+use Rattle.video2d.specs.Statuses.{status_blanked, status_started, status_written, with_half_byte}
+use Rattle.video2d.specs.Videos.{drawn_with, engine_of, hblank_set, line_drawn, unless_stop, video_after_event, video_blanked, video_byte_written, video_byte_written_by, video_happened, video_line_started, video_stop}
 use Rattle.video2d.specs.declared.ports.VideoPort.{VideoPort}
 use Rattle.video2d.specs.declared.ports.VideoPort.TheVariants.{Status, Count, OfEngine, Power, Nothing}
 

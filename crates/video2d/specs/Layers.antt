@@ -3,7 +3,6 @@ use Rattle.ds_base.specs.Bits.{bit, bits}
 use Rattle.obj2d.specs.declared.layers.ObjectPixel.{ObjectPixel}
 use Rattle.vram_banks.specs.Colours.{opaque_pixel}
 use Rattle.video2d.specs.Engines.{EngineState, bgcnt}
-use Rattle.video2d.specs.declared.layers.LayerPixels.{LayerPixels}
 
 -- The layers at a place of a line, from front to back (GBATEK, "LCD I/O Display Control", "LCD I/O BG Control" and "LCD OBJ - OAM Attributes":
 -- priority 0 is the highest; of equal priorities objects are in front of backgrounds, and a background of a lower number in front of one of a
@@ -16,6 +15,14 @@ pub record SeenLayer : Type 0 where
   pub priority : ℕ
   pub target : ℕ
   pub blended : Bool
+
+-- what all layers have at a place: the pixels of backgrounds 0 to 3, each 0 where it is transparent, and of the objects
+pub record LayerPixels : Type 0 where
+  pub bg0 : ℕ
+  pub bg1 : ℕ
+  pub bg2 : ℕ
+  pub bg3 : ℕ
+  pub objects : ObjectPixel
 
 abbrev pub seen_background : EngineState → ℕ → ℕ → SeenLayer
 seen_background e n pixel = record { pixel = pixel; priority = bits 0 2 (bgcnt e n); target = n; blended = false }

@@ -12,5 +12,5 @@ pub mod Stops
 pub mod Videos
 pub mod Windows
 pub mod rows
-pub mod Invariants
+pub mod VideoLaws
 pub mod Saved

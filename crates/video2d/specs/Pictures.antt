@@ -10,11 +10,10 @@ use Rattle.vram_banks.specs.Colours.{palette_colour}
 use Rattle.video2d.specs.Backgrounds.{background_pixel}
 use Rattle.video2d.specs.Effects.{effects_where}
 use Rattle.video2d.specs.Engines.{EngineState, dispcnt, engine_number, master_bright}
-use Rattle.video2d.specs.Layers.{front_to_back, layers_of}
+use Rattle.video2d.specs.Layers.{LayerPixels, front_to_back, layers_of}
 use Rattle.video2d.specs.Windows.{shown_by_windows}
 use Rattle.video2d.specs.declared.engines.Engine.{Engine}
 use Rattle.video2d.specs.declared.engines.Engine.TheVariants.{A, B}
-use Rattle.video2d.specs.declared.layers.LayerPixels.{LayerPixels}
 use Rattle.video2d.specs.declared.lines.Screen.{Screen}
 use Rattle.video2d.specs.declared.lines.Screen.TheVariants.{White, Layers, Bank, MainMemory}
 

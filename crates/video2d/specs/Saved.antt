@@ -1,17 +1,18 @@
-use Rattle.std.specs.Prelude.{ℕ, zero, suc, ◌≡◌, ◌≤◌, ◌<◌, ◌+◌, ◌==◌, not, Bool, if◌then◌else◌, List, Option, Some, None, Ok, bit_and, slice_index}
+use Rattle.std.specs.Prelude.{ℕ, zero, suc, ◌≡◌, ◌≤◌, ◌<◌, ◌+◌, ◌==◌, not, Bool, if◌then◌else◌, List, [], ◌∷◌, Ok, bit_and, slice_index}
 use Rattle.ds_base.specs.Bits.{bit}
 use Rattle.ds_base.specs.Numbers.{number_at, width_bytes, with_number, zeroes}
 use Rattle.ds_base.specs.declared.memories.Width.{Width}
 use Rattle.ds_base.specs.declared.memories.Width.TheVariants.{Half, Word}
 use Rattle.ds_state.specs.Formats.{Code, Format, number_code, flag_code, then_field, done, ◌>>=◌, one_field, its, each, any, at_most, keeps_mask}
-use Rattle.ds_state.specs.Laws.{OneSpelling, RoundTrips}
+use Rattle.ds_state.specs.FormatLaws.{OneSpelling, RoundTrips}
 use Rattle.ds_state.specs.Reading.{Left, read_format}
-use Rattle.video2d.specs.DisplayRegisters.{display_row, engine_bytes, engine_row_at}
+use Rattle.video2d.specs.DisplayRegisters.{display_row, engine_bytes, engine_registers}
 use Rattle.video2d.specs.Engines.{PointState}
-use Rattle.video2d.specs.Invariants.{IsVideo}
+use Rattle.video2d.specs.VideoLaws.{IsVideo}
 use Rattle.video2d.specs.Scans.{scan_after, scan_at_boot, scan_before, scan_due}
 use Rattle.video2d.specs.Statuses.{StatusState, status_word}
 use Rattle.video2d.specs.Videos.{VideoState}
+use Rattle.video2d.specs.declared.display_registers.DisplayRegister.{DisplayRegister}
 use Rattle.video2d.specs.declared.display_registers.DisplayRegister.TheVariants.{Dispstat}
 use Rattle.video2d.specs.declared.display_registers.DisplayRow.{DisplayRow}
 use Rattle.video2d.specs.declared.engines.Engine.{Engine}
@@ -47,23 +48,21 @@ row_width row = if row.bytes == 2 then Half else Word
 abbrev pub row_code : DisplayRow → Code ℕ
 row_code row = number_code (width_bytes (row_width row))
 
--- one that begins at an offset, and what comes after it
-abbrev pub register_field : Width → ℕ → ℕ → List ℕ → (ℕ → List ℕ → Format (List ℕ) (List ℕ)) → Format (List ℕ) (List ℕ)
-register_field width kept at made next =
-    then_field (number_code (width_bytes width)) (λ ports. number_at width ports at) (keeps_mask kept)
-    (λ value. next (at + width_bytes width) (with_number width made at value))
+-- so many registers of a row from an offset on, and then what comes after them
+abbrev pub row_format : DisplayRow → ℕ → ℕ → List ℕ → (List ℕ → Format (List ℕ) (List ℕ)) → Format (List ℕ) (List ℕ)
+row_format row zero at made next = next made
+row_format row (suc count) at made next =
+    then_field (row_code row) (λ ports. number_at (row_width row) ports at) (keeps_mask row.kept)
+    (λ value. row_format row count (at + row.bytes) (with_number (row_width row) made at value) next)
 
-abbrev pub register_if : Option DisplayRow → ℕ → List ℕ → (ℕ → List ℕ → Format (List ℕ) (List ℕ)) → Format (List ℕ) (List ℕ)
-register_if None at made next = next (at + 2) made
-register_if (Some row) at made next = register_field (row_width row) row.kept at made next
-
--- those from an offset on; none begins at an odd one
-abbrev pub registers_from : Engine → ℕ → ℕ → List ℕ → Format (List ℕ) (List ℕ)
-registers_from which zero at made = done made
-registers_from which (suc steps) at made = register_if (engine_row_at which at) at made (registers_from which steps)
+-- those of some rows, in their order
+abbrev pub rows_format : List DisplayRegister → List ℕ → Format (List ℕ) (List ℕ)
+rows_format [] made = done made
+rows_format (register ∷ registers) made =
+    let row = display_row register in row_format row row.count row.first made (rows_format registers)
 
 unfoldable pub ports_format : Engine → Format (List ℕ) (List ℕ)
-ports_format which = registers_from which 56 0 (zeroes engine_bytes)
+ports_format which = rows_format (engine_registers which) (zeroes engine_bytes)
 
 -- ---- running points and frames
 

@@ -1,3 +1,4 @@
-pub mod Composed
+pub mod Fronts
 pub mod Needs
 pub mod Plain
+pub mod Shown

@@ -1,103 +1,124 @@
-//! The two layers in front at a place, as words.
+//! The two layers in front at each place of a line, while layers are laid over one another from back to front.
 
-ghost use Rattle.std.specs.Prelude.{◌≡◌, ◌<◌, ℕ};
-ghost use Rattle.video2d.specs.Layers.{seen_objects, shown_through};
-ghost use Rattle.video2d.specs.rows.Composed.{layer_base, layer_word, with_layer_word, background_through, front_of};
+ghost use Rattle.std.specs.Prelude.{◌≡◌, ◌<◌, ◌≤◌, ◌^◌, ◌==◌, if◌then◌else◌, ℕ, slice_index};
+ghost use Rattle.obj2d.specs.ObjectLaws.{lanes_pixel};
+ghost use Rattle.video2d.specs.rows.Fronts.{front_at, front_kind, front_over, mark_blended, objects_over, started};
 
-use crate::layers::LayerPixels;
-use crate::mixes::LineOrder;
-use obj2d::ObjectPixel;
+use crate::rows::chosen;
+use obj2d::ObjectLanes;
 
-/// No layer.
-pub const NO_WORD: u32 = 0xFFFF_FFFF;
-
-/// The words of the layer in front and of the next one. A word has the layer's colour in bits 0 to 14; bit 15 tells of a semi-transparent object; it
-/// has the layer's number among the targets of effects in bits 16 to 18, its place among layers of one priority in bits 19 to 21, and its priority
-/// from bit 22 on: of two layers, the one in front has the lesser word.
+/// What is kept of a layer beside its colours.
 #[derive(Clone, Copy)]
-pub struct FrontPair {
-    /// The layer in front, `NO_WORD` where there is none.
-    pub top: u32,
-    /// The next one, likewise.
-    pub next: u32,
+pub struct Laid {
+    /// 0x8000 where the layer is a second target of effects, else 0.
+    pub second: u16,
+    /// What may act on the layer: 2 where it blends over a second target, 1 where its brightness changes, 3 where either does, else 0.
+    pub mark: u16,
 }
 
-/// A layer's word without its colour.
-fn layer_base(priority: u8, target: u8, blended: bool) -> u32
-    requires { target < 6 }
-    ensures value { result ≡ layer_base priority target blended }
-    ensures small { result < 0x8000_0000 }
-{
-    let place = if target == 4 { 1 } else { target as u32 + 2 };
-    let flag = if blended { 32768 } else { 0 };
-    4194304 * (priority % 8) as u32 + 524288 * place + 65536 * target as u32 + flag
+/// What is in front at a place.
+#[derive(Clone, Copy)]
+pub struct FrontPixel {
+    /// The first layer's colour, with bit 15 where the layer is a second target.
+    pub top: u16,
+    /// The next one's, likewise; 0 where there is none.
+    pub next: u16,
+    /// What may act on the first layer, as for `Laid`.
+    pub mark: u16,
 }
 
-/// A layer's word.
-fn layer_word(pixel: u16, priority: u8, target: u8, blended: bool) -> u32
-    requires { target < 6 }
-    ensures { result ≡ layer_word (record { pixel = pixel; priority = priority; target = target; blended = blended }) }
+/// What is in front along a line.
+#[derive(Clone, Copy)]
+pub struct Fronts {
+    /// The first layer's, as for `FrontPixel`.
+    pub tops: [u16; 256],
+    /// The next one's.
+    pub nexts: [u16; 256],
+    /// The marks.
+    pub marks: [u16; 256],
+}
+
+/// What is in front at a place of a line.
+#[inline(always)]
+fn front_at(fronts: &Fronts, x: usize) -> FrontPixel
+    requires { x < 256 }
+    ensures { result ≡ front_at fronts.now x }
 {
-    if pixel == 0 {
-        NO_WORD
-    } else {
-        layer_base(priority, target, blended) + (pixel % 0x8000) as u32
+    FrontPixel {
+        top: fronts.tops[x],
+        next: fronts.nexts[x],
+        mark: fronts.marks[x],
     }
 }
 
-/// One more word.
-fn with_word(word: u32, pair: FrontPair) -> FrontPair
-    ensures { result ≡ with_layer_word word pair }
+/// The mark of a layer whose pixel is of a semi-transparent object where `blended` is 1.
+#[inline(always)]
+fn mark_blended(blended: u16, mark: u16) -> u16
+    ensures { result ≡ mark_blended (blended == 1) mark }
 {
-    if word < pair.top {
-        FrontPair {
-            top: word,
-            next: pair.top,
-        }
-    } else if word < pair.next {
-        FrontPair {
-            top: pair.top,
-            next: word,
-        }
-    } else {
-        pair
+    if blended == 1 { 2 + mark % 2 } else { mark }
+}
+
+/// The backdrop alone.
+pub fn start_fronts(backdrop: u16, laid: Laid, into: &mut Fronts)
+    requires { laid.second ≤ 2 ^ 15 }
+    ensures { (x : ℕ) → x < 256 → front_at into.new x ≡ started backdrop laid }
+{
+    let top = backdrop % 0x8000 + laid.second;
+    for x in 0..256usize {
+        into.tops[x] = top;
+        into.nexts[x] = 0;
+        into.marks[x] = laid.mark;
     }
 }
 
-/// The word of background n, as a window shows it.
-fn background_word(shown: u8, priority: u8, n: u8, pixel: u16) -> u32
-    requires { n < 4 }
-    ensures { result ≡ layer_word (background_through shown priority n pixel) }
+/// Lays a row of pixels.
+pub fn lay_front(row: &[u16; 256], laid: Laid, into: &mut Fronts)
+    requires { laid.second ≤ 2 ^ 15 }
+    ensures { (x : ℕ) → x < 256 → front_at into.new x ≡ front_over (slice_index row.now x) laid (front_at into.old x) }
 {
-    let pixel = if (shown >> n) % 2 == 1 { pixel } else { 0 };
-    layer_word(pixel, priority, n, false)
+    for x in 0..256usize {
+        let pixel = row[x];
+        let top = into.tops[x];
+        into.nexts[x] = chosen(pixel == 0, into.nexts[x], top);
+        into.marks[x] = chosen(pixel == 0, into.marks[x], laid.mark);
+        into.tops[x] = chosen(pixel == 0, top, pixel % 0x8000 + laid.second);
+    }
 }
 
-/// The word of the objects, as a window shows them.
-fn objects_word(shown: u8, objects: ObjectPixel) -> u32
-    ensures { result ≡ layer_word (shown_through shown (seen_objects objects)) }
+/// Lays the objects of the priority whose turn it is.
+pub fn lay_front_objects(objects: &ObjectLanes, turn: u8, laid: Laid, into: &mut Fronts)
+    requires { laid.second ≤ 2 ^ 15 }
+    ensures { (x : ℕ) → x < 256 → front_at into.new x
+        ≡ (let p = lanes_pixel objects.now x in objects_over p.colour p.priority p.blended turn laid (front_at into.old x)) }
 {
-    let pixel = if (shown >> 4) % 2 == 1 {
-        objects.colour
+    for x in 0..256usize {
+        let pixel = chosen(objects.priorities[x] == turn as u16, objects.colours[x], 0);
+        let mark = mark_blended(objects.blended[x], laid.mark);
+        let top = into.tops[x];
+        into.nexts[x] = chosen(pixel == 0, into.nexts[x], top);
+        into.marks[x] = chosen(pixel == 0, into.marks[x], mark);
+        into.tops[x] = chosen(pixel == 0, top, pixel % 0x8000 + laid.second);
+    }
+}
+
+/// What acts at a place: 2 where the first layer is blended with the next, 1 where its brightness may change, else 0.
+#[inline(always)]
+fn kind_of(front: FrontPixel) -> u16
+    ensures { result ≡ front_kind front }
+{
+    if (front.mark >= 2) & (front.next >= 0x8000) {
+        2
     } else {
-        0
-    };
-    layer_word(pixel, objects.priority, 4, objects.blended)
+        front.mark % 2
+    }
 }
 
-/// The two layers in front.
-pub fn front_of(order: &LineOrder, shown: u8, pixels: LayerPixels) -> FrontPair
-    ensures { result ≡ front_of order.now shown pixels }
+/// What acts along a line.
+pub fn kinds_of(fronts: &Fronts, into: &mut [u16; 256])
+    ensures { (x : ℕ) → x < 256 → slice_index into.new x ≡ front_kind (front_at fronts.now x) }
 {
-    let backdrop = layer_word(order.backdrop % 0x8000 + 0x8000, 4, 5, false);
-    let nothing = FrontPair {
-        top: NO_WORD,
-        next: NO_WORD,
-    };
-    let pair = with_word(backdrop, nothing);
-    let pair = with_word(background_word(shown, order.bg3, 3, pixels.bg3), pair);
-    let pair = with_word(background_word(shown, order.bg2, 2, pixels.bg2), pair);
-    let pair = with_word(background_word(shown, order.bg1, 1, pixels.bg1), pair);
-    let pair = with_word(background_word(shown, order.bg0, 0, pixels.bg0), pair);
-    with_word(objects_word(shown, pixels.objects), pair)
+    for x in 0..256usize {
+        into[x] = kind_of(front_at(fronts, x));
+    }
 }

@@ -27,16 +27,17 @@
 #![tactic(auto)]
 
 mod backgrounds;
+mod compositions;
 mod display_registers;
 mod engines;
 mod fronts;
 mod laws;
-mod layers;
 mod lines;
 mod mixes;
 mod plains;
 mod points;
 mod ports;
+mod rows;
 mod scans;
 mod screens;
 mod statuses;

@@ -5,13 +5,13 @@ ghost use Rattle.bg_ext.specs.BankPixels.{vram_pixel};
 ghost use Rattle.video2d.specs.Engines.{dispcnt};
 ghost use Rattle.video2d.specs.Pictures.{layered_pixel, is_engine_enabled, display_mode, is_forced_blank, screen_shown, shows_layers, screen_pixel, engine_pixel, engine_line, background_palette, object_palette, object_memory};
 
+use crate::compositions::composed_line;
 use crate::engines::{Engine, EngineRegisters};
-use crate::layers::{draw_rows, empty_rows};
-use crate::mixes::{MixRow, finish_row, line_order, mix_rows};
-use crate::plains::{calm_line, is_calm, is_plain, plain_layers, plain_line};
+use crate::plains::{calm_line, is_calm, is_plain, plain_layers};
+use crate::rows::{colours_of, fill};
 use bg_ext::vram_row;
 use line_lanes::master;
-use vram_banks::{Row, Vram, palette_colour};
+use vram_banks::{Row, Vram};
 
 /// What a white screen shows.
 const WHITE: u16 = 0x7FFF;
@@ -81,45 +81,8 @@ pub fn is_enabled(which: Engine, power: u16) -> bool
     (power >> bit) % 2 == 1
 }
 
-/// Draws the line of an engine's layers, with windows, objects and effects. `colours` and `object_colours` have the 512 bytes of its palettes for
-/// backgrounds and for objects, `oam` its 1,024 bytes of objects.
-fn composed_line(
-    vram: &Vram,
-    colours: &[u8],
-    object_colours: &[u8],
-    oam: &[u8],
-    which: Engine,
-    engine: &EngineRegisters,
-    line: u8,
-    into: &mut [u16; 256],
-)
-    requires colours { length colours.now ≡ 512 }
-    requires object_colours { length object_colours.now ≡ 512 }
-    requires oam { length oam.now ≡ 1024 }
-    ensures { (x : ℕ) → x < 256 → slice_index into.new x ≡ layered_pixel vram.now colours.now object_colours.now oam.now which engine.now line x }
-{
-    let mut rows = empty_rows();
-    let mut mixes = MixRow {
-        top: [0; 256],
-        next: [0; 256],
-        kinds: [0; 256],
-    };
-    draw_rows(
-        vram,
-        colours,
-        object_colours,
-        oam,
-        which,
-        engine,
-        line,
-        &mut rows,
-    );
-    let order = line_order(engine, line, palette_colour(colours, 0));
-    mix_rows(&order, &rows, &mut mixes);
-    finish_row(engine, &mixes, into);
-}
-
-/// Draws the line of an engine's layers, likewise.
+/// Draws the line of an engine's layers. `colours` and `object_colours` have the 512 bytes of its palettes for backgrounds and for objects, `oam` its
+/// 1,024 bytes of objects.
 fn layered_line(
     vram: &Vram,
     colours: &[u8],
@@ -198,22 +161,13 @@ pub fn object_memory(which: Engine, oam: &[u8]) -> &[u8]
     }
 }
 
-/// The colours of opaque pixels.
-fn colours_of(row: &Row, into: &mut [u16; 256])
-    ensures { (x : ℕ) → x < 256 → slice_index into.new x ≡ slice_index row.now.pixels x % 2 ^ 15 }
-{
-    for x in 0..256usize {
-        into[x] = row.pixels[x] % 0x8000;
-    }
-}
-
 /// Draws the line of a bank that is shown as it lies.
 fn bank_line(vram: &Vram, engine: &EngineRegisters, line: u8, into: &mut [u16; 256])
     ensures { (x : ℕ) → x < 256 → slice_index into.new x ≡ vram_pixel vram.now (dispcnt engine.now) line x % 2 ^ 15 }
 {
     let mut row = Row { pixels: [0; 256] };
     vram_row(vram, engine.dispcnt(), line, &mut row);
-    colours_of(&row, into);
+    colours_of(&row.pixels, into);
 }
 
 /// Draws the line of an engine's layers, with its palettes and objects in the memories of both engines.
@@ -262,10 +216,10 @@ fn screen_line(
     ensures { (x : ℕ) → x < 256 → slice_index into.new x ≡ screen_pixel vram.now palette.now oam.now which engine.now line x }
 {
     match screen_shown(which, engine) {
-        Screen::White => plain_line(WHITE, into),
+        Screen::White => fill(WHITE, into),
         Screen::Layers => layers_line(vram, palette, oam, which, engine, line, into),
         Screen::Bank => bank_line(vram, engine, line, into),
-        Screen::MainMemory => plain_line(0, into),
+        Screen::MainMemory => fill(0, into),
     }
 }
 
@@ -288,7 +242,7 @@ fn shown_line(
         screen_line(vram, palette, oam, which, engine, line, into);
         master(into, engine.master_bright());
     } else {
-        plain_line(0, into);
+        fill(0, into);
     }
 }
 

@@ -1,14 +1,15 @@
 //! Lines where the engine's registers leave the layers as they are: they are laid over the backdrop, from back to front.
 
 ghost use Rattle.std.specs.Prelude.{◌≡◌, ◌<◌, ◌==◌, if◌then◌else◌, ℕ, length, slice_index};
-ghost use Rattle.obj2d.specs.ObjectLayer.{shown_pixel};
+ghost use Rattle.obj2d.specs.ObjectLaws.{ArePresent, lanes_pixel};
 ghost use Rattle.video2d.specs.Layers.{seen_objects};
 ghost use Rattle.video2d.specs.rows.Plain.{background_seen, backgrounds_seen, calm_layers, calm_over, calm_pixel, has_no_backgrounds, is_calm, is_plain_engine, laid_at, laid_over, over_at, plain_pixel};
 
 use crate::backgrounds::{background_row, is_background_on};
 use crate::engines::{Engine, EngineRegisters};
 use crate::mixes::priority;
-use obj2d::{ShownRow, shown_row};
+use crate::rows::fill;
+use obj2d::{ObjectLanes, no_objects, object_lanes};
 use vram_banks::{Row, Vram, palette_colour};
 
 /// Whether objects and windows are off, and there is no effect.
@@ -16,15 +17,6 @@ pub fn is_plain(engine: &EngineRegisters) -> bool
     ensures { result ≡ is_plain_engine engine.now }
 {
     (engine.dispcnt() >> 12) % 16 == 0 && (engine.bldcnt() >> 6) % 4 == 0
-}
-
-/// The line in one colour.
-pub fn plain_line(colour: u16, into: &mut [u16; 256])
-    ensures { (x : ℕ) → x < 256 → slice_index into.new x ≡ colour }
-{
-    for x in 0..256usize {
-        into[x] = colour;
-    }
 }
 
 /// A pixel over what is behind it.
@@ -109,7 +101,7 @@ pub fn plain_layers(
     requires { length colours.now ≡ 512 }
     ensures { (x : ℕ) → x < 256 → slice_index into.new x ≡ plain_pixel vram.now colours.now which engine.now line x }
 {
-    plain_line(palette_colour(colours, 0) % 0x8000, into);
+    fill(palette_colour(colours, 0) % 0x8000, into);
     if has_no_backgrounds(engine) {
         return;
     }
@@ -141,8 +133,8 @@ fn over_in_turn(pixel: u16, priority: u16, turn: u16, behind: u16) -> u16
 }
 
 /// Lays the objects of the priority whose turn it is.
-fn lay_objects(objects: &ShownRow, turn: u8, into: &mut [u16; 256])
-    ensures { (x : ℕ) → x < 256 → slice_index into.new x ≡ over_at turn (seen_objects (shown_pixel objects.now x)) (slice_index into.old x) }
+fn lay_objects(objects: &ObjectLanes, turn: u8, into: &mut [u16; 256])
+    ensures { (x : ℕ) → x < 256 → slice_index into.new x ≡ over_at turn (seen_objects (lanes_pixel objects.now x)) (slice_index into.old x) }
 {
     for x in 0..256usize {
         into[x] = over_in_turn(
@@ -154,6 +146,17 @@ fn lay_objects(objects: &ShownRow, turn: u8, into: &mut [u16; 256])
     }
 }
 
+/// The same, where the priority is among those that are present.
+fn lay_present(objects: &ObjectLanes, present: &[bool; 4], turn: u8, into: &mut [u16; 256])
+    requires present { ArePresent objects.now present.now }
+    requires known { turn < 4 }
+    ensures { (x : ℕ) → x < 256 → slice_index into.new x ≡ over_at turn (seen_objects (lanes_pixel objects.now x)) (slice_index into.old x) }
+{
+    if present[turn as usize] {
+        lay_objects(objects, turn, into);
+    }
+}
+
 /// Lays all layers of a priority.
 fn lay_turn(
     vram: &Vram,
@@ -161,16 +164,19 @@ fn lay_turn(
     which: Engine,
     engine: &EngineRegisters,
     line: u8,
-    objects: &ShownRow,
+    objects: &ObjectLanes,
+    present: &[bool; 4],
     turn: u8,
     into: &mut [u16; 256],
 )
-    requires { length colours.now ≡ 512 }
+    requires colours { length colours.now ≡ 512 }
+    requires present { ArePresent objects.now present.now }
+    requires known { turn < 4 }
     ensures { (x : ℕ) → x < 256 → slice_index into.new x
-        ≡ laid_at turn (calm_layers vram.now colours.now which engine.now line (shown_pixel objects.now x) x) (slice_index into.old x) }
+        ≡ laid_at turn (calm_layers vram.now colours.now which engine.now line (lanes_pixel objects.now x) x) (slice_index into.old x) }
 {
     lay_priority(vram, colours, which, engine, line, turn, into);
-    lay_objects(objects, turn, into);
+    lay_present(objects, present, turn, into);
 }
 
 /// Lays all layers over the backdrop.
@@ -181,17 +187,27 @@ fn lay_turns(
     which: Engine,
     engine: &EngineRegisters,
     line: u8,
-    objects: &ShownRow,
+    objects: &ObjectLanes,
+    present: &[bool; 4],
     into: &mut [u16; 256],
 )
-    requires { length colours.now ≡ 512 }
-    ensures { (x : ℕ) → x < 256 → slice_index into.new x ≡ calm_over vram.now colours.now which engine.now line x (shown_pixel objects.now x) }
+    requires colours { length colours.now ≡ 512 }
+    requires present { ArePresent objects.now present.now }
+    ensures { (x : ℕ) → x < 256 → slice_index into.new x ≡ calm_over vram.now colours.now which engine.now line x (lanes_pixel objects.now x) }
 {
-    plain_line(palette_colour(colours, 0) % 0x8000, into);
-    lay_turn(vram, colours, which, engine, line, objects, 3, into);
-    lay_turn(vram, colours, which, engine, line, objects, 2, into);
-    lay_turn(vram, colours, which, engine, line, objects, 1, into);
-    lay_turn(vram, colours, which, engine, line, objects, 0, into);
+    fill(palette_colour(colours, 0) % 0x8000, into);
+    lay_turn(
+        vram, colours, which, engine, line, objects, present, 3, into,
+    );
+    lay_turn(
+        vram, colours, which, engine, line, objects, present, 2, into,
+    );
+    lay_turn(
+        vram, colours, which, engine, line, objects, present, 1, into,
+    );
+    lay_turn(
+        vram, colours, which, engine, line, objects, present, 0, into,
+    );
 }
 
 /// Draws the line of an engine's backgrounds and objects over the backdrop; where no object is drawn on the line, as if objects were off.
@@ -211,12 +227,10 @@ pub fn calm_line(
     requires oam { length oam.now ≡ 1024 }
     ensures { (x : ℕ) → x < 256 → slice_index into.new x ≡ calm_pixel vram.now colours.now object_colours.now oam.now which engine.now line x }
 {
-    let mut objects = ShownRow {
-        colours: [0; 256],
-        priorities: [0; 256],
-    };
+    let mut objects = no_objects();
+    let mut present = [false; 4];
     let control = engine.dispcnt();
-    let has_objects = shown_row(
+    let has_objects = object_lanes(
         vram,
         object_colours,
         oam,
@@ -224,9 +238,10 @@ pub fn calm_line(
         which.number(),
         line,
         &mut objects,
+        &mut present,
     );
     if has_objects {
-        lay_turns(vram, colours, which, engine, line, &objects, into);
+        lay_turns(vram, colours, which, engine, line, &objects, &present, into);
     } else {
         plain_layers(vram, colours, which, engine, line, into);
     }

@@ -1,11 +1,13 @@
 //! Windows along a line.
 
-ghost use Rattle.std.specs.Prelude.{◌≡◌, ◌<◌, ◌≤◌};
-ghost use Rattle.video2d.specs.Windows.{is_between, is_window_on, reaches_line};
-ghost use Rattle.video2d.specs.rows.Composed.{window_line, shown_along};
+ghost use Rattle.std.specs.Prelude.{◌≡◌, ◌<◌, ◌≤◌, ◌==◌, if◌then◌else◌, ℕ, slice_index};
+ghost use Rattle.ds_base.specs.Bits.{bit};
+ghost use Rattle.video2d.specs.Windows.{is_between, is_window_on, reaches_line, shown_by_windows};
+ghost use Rattle.video2d.specs.rows.Shown.{shown_bits_at, shown_inside, window_line};
 
 use crate::display_registers::DisplayRegister;
 use crate::engines::EngineRegisters;
+use crate::rows::{fill, fill_part, fill_where};
 
 /// The windows of an engine at a line: whether none is on, which of windows 0 and 1 reach the line, whether the object window is on, the sides of
 /// windows 0 and 1, and what is shown in each window and outside.
@@ -86,19 +88,83 @@ pub fn window_line(engine: &EngineRegisters, line: u8) -> WindowLine
     }
 }
 
-/// What is shown at place x of the line, which lies in the object window or doesn't.
-pub fn shown_along(windows: &WindowLine, in_objects: bool, x: u8) -> u8
-    ensures { result ≡ shown_along windows.now in_objects x }
+/// A number between two sides.
+fn fill_between(number: u16, first: u8, second: u8, into: &mut [u16; 256])
+    ensures { (x : ℕ) → x < 256 → slice_index into.new x ≡ (if is_between first second x then number else slice_index into.old x) }
 {
-    if windows.none {
-        0x3F
-    } else if windows.zero && is_between(windows.zero_left, windows.zero_right, x) {
-        windows.in_zero
-    } else if windows.one && is_between(windows.one_left, windows.one_right, x) {
-        windows.in_one
-    } else if windows.objects && in_objects {
-        windows.in_objects
+    let first = first as usize;
+    let second = second as usize;
+    if second < first {
+        fill_part(number, 0, second, into);
+        fill_part(number, first, 256, into);
     } else {
-        windows.outside
+        fill_part(number, first, second, into);
+    }
+}
+
+/// What is shown at each place of the line, of which those that `in_objects` has as 1 lie in the object window.
+fn fill_shown(windows: &WindowLine, in_objects: &[u16; 256], into: &mut [u16; 256])
+    ensures { (x : ℕ) → x < 256 → slice_index into.new x ≡ shown_inside windows.now (slice_index in_objects.now x == 1) x }
+{
+    fill(windows.outside as u16, into);
+    if windows.objects {
+        fill_where(windows.in_objects as u16, in_objects, 1, into);
+    }
+    if windows.one {
+        fill_between(
+            windows.in_one as u16,
+            windows.one_left,
+            windows.one_right,
+            into,
+        );
+    }
+    if windows.zero {
+        fill_between(
+            windows.in_zero as u16,
+            windows.zero_left,
+            windows.zero_right,
+            into,
+        );
+    }
+}
+
+/// What is shown along a line.
+#[derive(Clone, Copy)]
+pub struct ShownLine {
+    /// Whether all is shown everywhere, since no window is on.
+    pub all: bool,
+    /// What is shown at each place, otherwise: backgrounds by bits 0 to 3, objects by bit 4, effects by bit 5.
+    pub bits: [u16; 256],
+}
+
+/// What is shown along a line, of which the places that `in_objects` has as 1 lie in the object window.
+pub fn find_shown(engine: &EngineRegisters, line: u8, in_objects: &[u16; 256], into: &mut ShownLine)
+    ensures { (x : ℕ) → x < 256 → shown_bits_at into.new x ≡ shown_by_windows engine.now (slice_index in_objects.now x == 1) line x }
+{
+    let windows = window_line(engine, line);
+    into.all = windows.none;
+    if !windows.none {
+        fill_shown(&windows, in_objects, &mut into.bits);
+    }
+}
+
+/// A pixel where it is shown. It is read whatever comes of it, so that no branch is taken, and many places are reached at once.
+#[inline(always)]
+fn where_shown(shown: bool, pixel: u16) -> u16
+    ensures { result ≡ (if shown then pixel else 0) }
+{
+    if shown { pixel } else { 0 }
+}
+
+/// Makes a row 0 where the thing of bit n isn't shown.
+pub fn hide(shown: &ShownLine, n: u8, row: &mut [u16; 256])
+    requires { n < 6 }
+    ensures { (x : ℕ) → x < 256 → slice_index row.new x ≡ (if bit n (shown_bits_at shown.now x) then slice_index row.old x else 0) }
+{
+    if shown.all {
+        return;
+    }
+    for x in 0..256usize {
+        row[x] = where_shown((shown.bits[x] >> n) % 2 == 1, row[x]);
     }
 }

@@ -1,17 +1,9 @@
-use Rattle.std.proofs.Common.{inl, inr, ℕ, zero, suc, ◌≡◌, ◌≢◌, ◌<◌, ◌+◌, ◌/◌, ◌%◌, ◌^◌, ◌==◌, ◌&&◌, ◌||◌, nat_lt, Bool, true, false, not, List, [], ◌∷◌, length, Option, Some, None, refl, ap, sym, ◌∙◌, subst, arith, slice_index}
-use Rattle.std.specs.Prelude.{if◌then◌else◌}
-use Rattle.std.proofs.lemmas.Nat.{mod_below}
-use Rattle.std.proofs.lemmas.Option.{same_Some, none-some}
-use Rattle.ds_base.specs.Memories.{space_size}
-use Rattle.ds_base.specs.Numbers.{aligned_down, value_by, put_by}
-use Rattle.ds_base.specs.declared.memories.Space.{Space}
-use Rattle.ds_base.specs.declared.memories.Space.TheVariants.{ABg, BBg, AObj, BObj, Lcdc, Arm7, ABgPalette, BBgPalette, AObjPalette, BObjPalette}
-use Rattle.ds_base.specs.declared.memories.Width.{Width}
-use Rattle.ds_base.specs.declared.memories.Width.TheVariants.{Byte, Half, Word}
-use Rattle.vram_banks.specs.BankMap.{BankRow, rows_of, row_by, same_space, first_cell, Stands}
-use Rattle.vram_banks.specs.Cells.{Banks, allotted_bit, is_allotted, is_allotted_there, meets_allotted, cell_there, byte_or_0, put_there, put_below, vram_byte, with_vram_byte, vram_value, vram_written, IsCellAt}
-use Rattle.vram_banks.specs.Mixes.{mixed}
-use Rattle.vram_banks.specs.paging.Flat.{cell_of}
+use Rattle.vram_banks.proofs.Words.{inl, inr, ℕ, zero, suc, ◌≡◌, ◌<◌, ◌+◌, ◌/◌, ◌%◌, ◌^◌, ◌==◌, ◌&&◌, ◌||◌, nat_lt, Bool, true, false, not, List, []}
+use Rattle.vram_banks.proofs.Words.{◌∷◌, length, Option, Some, None, refl, ap, sym, ◌∙◌, subst, arith, slice_index, if◌then◌else◌, mod_below}
+use Rattle.vram_banks.proofs.Words.{same_Some, none-some, space_size, aligned_down, value_by, put_by, Space, Arm7, Width, Byte, Half, Word, BankRow}
+use Rattle.vram_banks.proofs.Words.{rows_of, row_by, same_space, first_cell, Stands, Banks, allotted_bit, cell_there, byte_or_0, put_there, put_below}
+use Rattle.vram_banks.proofs.Words.{vram_byte, with_vram_byte, vram_value, vram_written, IsCellAt, mixed, cell_of}
+use Rattle.vram_banks.specs.Cells.{is_allotted, is_allotted_there, meets_allotted}
 use Rattle.vram_banks.proofs.CellLemmas.{with_bytes}
 use Rattle.vram_banks.proofs.MapLaws.{size_of_bank, each_of_nine, row_by-first, same_numbers, fits_of, cell_stands, there_flat}
 use Rattle.vram_banks.proofs.Mixes.{mixed_own, mixed_other, mixed_set_own, mixed_set_other}
@@ -124,21 +116,6 @@ not_met controls space at other =
     let c = there_apart controls (cell_there controls space at 2) (λ cell e. cell_apart controls space at 2 cell other (omega arith) e) in
     let d = there_apart controls (cell_there controls space at 3) (λ cell e. cell_apart controls space at 3 cell other (omega arith) e) in
     rw (c, d) refl
-
-pub other_space : (space : Space) → space ≢ Arm7 → same_space space Arm7 ≡ false
-other_space ABg ne = refl
-other_space BBg ne = refl
-other_space AObj ne = refl
-other_space BObj ne = refl
-other_space Lcdc ne = refl
-other_space Arm7 ne = absurd (ne refl)
-other_space ABgPalette ne = refl
-other_space BBgPalette ne = refl
-other_space AObjPalette ne = refl
-other_space BObjPalette ne = refl
-
-pub not_met-other : (controls : List ℕ) (space : Space) (at : ℕ) → space ≢ Arm7 → meets_allotted controls space at ≡ false
-not_met-other controls space at ne = not_met controls space at (other_space space ne)
 
 -- ---- the same of the relation of the table
 

@@ -1,15 +1,12 @@
-use Rattle.std.proofs.Common.{ℕ, zero, suc, ◌≡◌, ◌≢◌, ◌<◌, ◌+◌, ◌-◌, ◌/◌, ◌%◌, inl, inr, List, get_or, set, Option, Some, None, refl, sym, ◌∙◌, subst, arith, add-one, bit_or, slice_index, slice_set, drop}
+use Rattle.vram_banks.proofs.Words.{ℕ, zero, suc, ◌≡◌, ◌≢◌, ◌<◌, ◌+◌, ◌-◌, ◌/◌, ◌%◌, inl, inr, List, get_or, set, Option, Some, None, refl, sym, ◌∙◌}
+use Rattle.vram_banks.proofs.Words.{subst, arith, slice_index, slice_set, drop, same_or_not, Width, Byte, Half, Word, Empty, One, width_bytes}
+use Rattle.vram_banks.proofs.Words.{value_by, put_by, cell_of, or_at, put_in_cells, NoneBelow, IsFound, Banks, byte_or_0, or_below, put_there}
+use Rattle.vram_banks.proofs.Words.{put_below}
+use Rattle.std.proofs.Common.{add-one, bit_or}
 use lib.Bits.{or_zero_r, or_zero_l}
 use Rattle.std.specs.List.{slice_range}
 use Rattle.std.proofs.lemmas.List.{get_or-take, get_or-drop}
-use Rattle.ds_base.proofs.Choices.{same_or_not}
-use Rattle.ds_base.specs.declared.memories.Width.{Width}
-use Rattle.ds_base.specs.declared.memories.Width.TheVariants.{Byte, Half, Word}
-use Rattle.vram_banks.specs.declared.maps.Page.TheVariants.{Empty, One}
-use Rattle.ds_base.specs.Numbers.{width_bytes, value_by, put_by}
-use Rattle.vram_banks.specs.paging.Flat.{cell_of, or_at, put_in_cells}
-use Rattle.vram_banks.specs.paging.Pages.{NoneBelow, OneBelow, IsFound}
-use Rattle.vram_banks.specs.Cells.{Banks, byte_or_0, or_below, put_there, put_below}
+use Rattle.vram_banks.specs.paging.Pages.{OneBelow}
 
 pub or_none : (f : ℕ → ℕ) → or_below 0 f ≡ 0
 unfolding or_below

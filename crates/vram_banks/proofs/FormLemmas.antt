@@ -1,6 +1,5 @@
-use Rattle.std.proofs.Common.{ℕ, Bool, true, false, ◌==◌, refl, arith}
-use Rattle.std.specs.Prelude.{if◌then◌else◌}
-use Rattle.vram_banks.specs.Colours.{opaque_pixel, indexed_pixel, HasForm}
+use Rattle.vram_banks.proofs.Words.{ℕ, Bool, true, false, ◌==◌, refl, arith, if◌then◌else◌, opaque_pixel, indexed_pixel}
+use Rattle.vram_banks.specs.Colours.{HasForm}
 
 -- A pixel has bit 15 set, or is 0.
 

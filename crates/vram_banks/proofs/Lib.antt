@@ -1,3 +1,4 @@
+mod Words
 pub mod Allotted
 pub mod CellLemmas
 pub mod MapLaws
@@ -5,7 +6,8 @@ pub mod Mixes
 pub mod PageLemmas
 pub mod Puts
 pub mod SetLaws
-pub mod NibbleLemmas
+pub mod TableLemmas
+pub mod WordNibbles
 pub mod FormLemmas
 pub mod PaletteLemmas
 pub mod SavedLaws

@@ -1,15 +1,14 @@
-use Rattle.std.proofs.Common.{ℕ, ◌≡◌, ◌≢◌, ◌<◌, ◌≤◌, ◌+◌, ◌-◌, ◌*◌, ◌/◌, ◌%◌, ◌^◌, ◌⊎◌, inl, inr, Bool, true, false, not, ◌||◌, ◌&&◌, ◌==◌, nat_lt, nat_le, List, [], ◌∷◌, get_or, Option, Some, None, refl, ap, sym, ◌∙◌, subst, arith}
-use Rattle.std.specs.Prelude.{if◌then◌else◌}
-use Rattle.std.proofs.lemmas.Option.{same_Some, none-some}
-use Rattle.ds_base.proofs.Choices.{low_or_high, same_or_not}
+use Rattle.vram_banks.proofs.Words.{ℕ, ◌≡◌, ◌≢◌, ◌<◌, ◌≤◌, ◌+◌, ◌-◌, ◌*◌, ◌/◌, ◌%◌, ◌^◌, ◌⊎◌, inl, inr, Bool, true, false, not, ◌||◌, ◌&&◌, ◌==◌}
+use Rattle.vram_banks.proofs.Words.{nat_lt, List, [], ◌∷◌, get_or, Option, Some, None, refl, ap, sym, ◌∙◌, subst, arith, if◌then◌else◌, same_Some}
+use Rattle.vram_banks.proofs.Words.{none-some, same_or_not, space_size, Space, ABg, BBg, AObj, BObj, Lcdc, Arm7, ABgPalette, BBgPalette, AObjPalette}
+use Rattle.vram_banks.proofs.Words.{BObjPalette, Window, BankRow, rows_of, row_by, chosen_row, row_start, same_space, first_cell, Stands, StandsIn}
+use Rattle.vram_banks.proofs.Words.{allotted_bit, cell_there, origin_of, no_window, window_of, cell_in, cell_of}
+use Rattle.std.proofs.Common.{nat_le}
+use Rattle.ds_base.proofs.Choices.{low_or_high}
 use Rattle.ds_base.specs.Bits.{bits}
-use Rattle.ds_base.specs.Memories.{space_size}
-use Rattle.ds_base.specs.declared.memories.Space.{Space}
-use Rattle.ds_base.specs.declared.memories.Space.TheVariants.{ABg, BBg, AObj, BObj, Lcdc, Arm7, ABgPalette, BBgPalette, AObjPalette, BObjPalette}
-use Rattle.vram_banks.specs.declared.windows.Window.{Window}
-use Rattle.vram_banks.specs.BankMap.{BankRow, rows_of, row_by, chosen_row, row_start, same_space, space_number, first_cell, Stands, StandsIn}
-use Rattle.vram_banks.specs.Cells.{allotted_bit, cell_by, cell_there}
-use Rattle.vram_banks.specs.paging.Flat.{origin_of, no_window, window_by, window_of, cell_in, cell_of}
+use Rattle.vram_banks.specs.BankMap.{space_number}
+use Rattle.vram_banks.specs.Cells.{cell_by}
+use Rattle.vram_banks.specs.paging.Flat.{window_by}
 
 -- every row of a table lies in its space, and its bytes in its bank, which has n
 abbrev pub all_fit : ℕ → List BankRow → Bool

@@ -1,8 +1,7 @@
-use Rattle.std.proofs.Common.{ℕ, zero, suc, ◌≡◌, ◌<◌, ◌+◌, ◌/◌, ◌%◌, Bool, true, false, if◌then◌else◌, List, [], ◌∷◌, length, drop, slice_index, slice_set, refl, ap, sym, ◌∙◌, subst, arith, add-zero, length-set}
-use Rattle.ds_base.specs.declared.memories.Width.{Width}
-use Rattle.ds_base.specs.declared.memories.Width.TheVariants.{Byte, Half, Word}
-use Rattle.ds_base.specs.Numbers.{width_bytes, number_at, with_number}
-use Rattle.vram_banks.specs.Mixes.{mixed}
+use Rattle.vram_banks.proofs.Words.{ℕ, zero, suc, ◌≡◌, ◌<◌, ◌+◌, ◌/◌, ◌%◌, Bool, true, false, List, [], ◌∷◌, length, drop, slice_index, slice_set}
+use Rattle.vram_banks.proofs.Words.{refl, ap, sym, ◌∙◌, subst, arith, add-zero, Width, Byte, Half, Word, width_bytes, mixed}
+use Rattle.std.proofs.Common.{if◌then◌else◌, length-set}
+use Rattle.ds_base.specs.Numbers.{number_at, with_number}
 
 -- ---- one byte of a list that two owners share
 

@@ -1,14 +1,13 @@
-use Rattle.std.proofs.Common.{ℕ, ◌≡◌, ◌<◌, ◌≤◌, ◌+◌, ◌-◌, ◌*◌, ◌/◌, ◌%◌, ◌⊎◌, inl, inr, List, length, get_or, set, [], ◌∷◌, Option, Some, None, refl, sym, ◌∙◌, ap, subst, arith}
+use Rattle.vram_banks.proofs.Words.{ℕ, ◌≡◌, ◌<◌, ◌≤◌, ◌+◌, ◌-◌, ◌*◌, ◌/◌, ◌%◌, ◌⊎◌, inl, inr, List, length, get_or, set, [], ◌∷◌, Option, Some, None}
+use Rattle.vram_banks.proofs.Words.{refl, sym, ◌∙◌, ap, subst, arith, get_or-set_same, get_or-set_other, same_or_not, Empty, One, Window, first_cell}
+use Rattle.vram_banks.proofs.Words.{IsControl, no_window, window_of, cell_in, cell_of, NoneBelow, IsPageBelow, IsFound, ArePages, cell_among}
 use Rattle.std.proofs.lemmas.Grind.{common_steps}
-use Rattle.std.proofs.lemmas.List.{get_or_default, get_or-set_same, get_or-set_other}
-use Rattle.ds_base.proofs.Choices.{same_or_not}
+use Rattle.std.proofs.lemmas.List.{get_or_default}
 use Rattle.vram_banks.specs.declared.maps.Page.{Page}
-use Rattle.vram_banks.specs.declared.maps.Page.TheVariants.{Empty, One, Several}
-use Rattle.vram_banks.specs.declared.windows.Window.{Window}
-use Rattle.vram_banks.specs.BankMap.{first_cell, mst_bits, kept_bank_control}
-use Rattle.vram_banks.specs.Cells.{IsControl}
-use Rattle.vram_banks.specs.paging.Flat.{no_window, window_of, cell_in, cell_of, IsRoomy}
-use Rattle.vram_banks.specs.paging.Pages.{NoneBelow, IsPageBelow, IsFound, AreWindows, ArePages, window_at, cell_among, page_at, with_cell}
+use Rattle.vram_banks.specs.declared.maps.Page.TheVariants.{Several}
+use Rattle.vram_banks.specs.BankMap.{mst_bits, kept_bank_control}
+use Rattle.vram_banks.specs.paging.Flat.{IsRoomy}
+use Rattle.vram_banks.specs.paging.Pages.{AreWindows, window_at, page_at, with_cell}
 
 -- where the banks below n have none, and bank n has this
 none_more : (f : ℕ → Option ℕ) (n : ℕ) → NoneBelow f n → f n ≡ None → NoneBelow f (n + 1)

@@ -1,8 +1,6 @@
-use Rattle.std.proofs.Common.{ℕ, ◌≡◌, ◌<◌, ◌+◌, ◌-◌, ◌*◌, ◌%◌, ◌==◌, true, false, List, get_or, refl, sym, ◌∙◌, ap, arith}
-use Rattle.std.specs.Prelude.{if◌then◌else◌}
-use Rattle.ds_base.specs.declared.memories.Space.{Space}
-use Rattle.vram_banks.specs.Cells.{Banks, vram_byte}
-use Rattle.vram_banks.specs.Colours.{opaque_pixel, palette_colour, extended_colour, indexed_pixel, table_pixel}
+use Rattle.vram_banks.proofs.Words.{ℕ, ◌≡◌, ◌<◌, ◌+◌, ◌-◌, ◌*◌, ◌%◌, ◌==◌, true, false, List, get_or, refl, sym, ◌∙◌, ap, arith, if◌then◌else◌, Space}
+use Rattle.vram_banks.proofs.Words.{Banks, vram_byte, opaque_pixel, palette_colour, indexed_pixel}
+use Rattle.vram_banks.specs.Colours.{extended_colour, table_pixel}
 
 -- A palette that was read at once has the colours that are read one by one.
 

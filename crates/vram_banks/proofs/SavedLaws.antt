@@ -1,7 +1,7 @@
 use Rattle.std.proofs.Common.{rules, ℕ, ◌≡◌, List, [], ◌∷◌, length, slice_index, refl, arith}
 use Rattle.vram_banks.specs.Cells.{Banks, AreBanks}
 use Rattle.vram_banks.specs.Saved.{BanksAreSaved, banks_format, banks_size}
-use Rattle.ds_state.specs.Laws.{IsExact, StandsFor}
+use Rattle.ds_state.proofs.Standing.{IsExact, StandsFor}
 use Rattle.ds_state.proofs.Exact.{one_spelling, round_trips}
 
 -- What video memory owes of its format.

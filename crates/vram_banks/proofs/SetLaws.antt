@@ -1,19 +1,15 @@
-use Rattle.std.proofs.Common.{ℕ, zero, suc, ◌≡◌, ◌≢◌, ◌<◌, ◌+◌, ◌*◌, ◌/◌, ◌%◌, ◌^◌, ◌⊎◌, inl, inr, max, List, length, get_or, Option, Some, None, refl, ap, sym, ◌∙◌, subst, arith, add-zero}
+use Rattle.vram_banks.proofs.Words.{ℕ, zero, suc, ◌≡◌, ◌≢◌, ◌<◌, ◌+◌, ◌*◌, ◌/◌, ◌%◌, ◌^◌, ◌⊎◌, inl, inr, List, length, get_or, Option, Some, None}
+use Rattle.vram_banks.proofs.Words.{refl, ap, sym, ◌∙◌, subst, arith, add-zero, mod_below, same_Some, none-some, get_or-set_same, get_or-set_other}
+use Rattle.vram_banks.proofs.Words.{same_or_not, space_size, width_bytes, aligned_down, value_by, put_by, Space, ABg, BBg, AObj, BObj, Lcdc, Arm7}
+use Rattle.vram_banks.proofs.Words.{ABgPalette, BBgPalette, AObjPalette, BObjPalette, Width, Byte, Half, Word, BankRow, chosen_row, row_start}
+use Rattle.vram_banks.proofs.Words.{first_cell, origin_of, window_of, cell_of, or_at, put_in_cells, Banks, byte_or_0, or_below, put_there, put_below}
+use Rattle.vram_banks.proofs.Words.{cell_there, vram_byte, with_vram_byte, vram_value, vram_written, IsOr, IsCellAt, IsRead, IsWritten}
+use Rattle.std.proofs.Common.{max}
 use Rattle.std.specs.Int.{bit_at}
 use Rattle.std.proofs.lemmas.Nat.Bits.{bit_at_or, bit_at-zero, bit_at-lt}
-use Rattle.std.proofs.lemmas.Nat.{mod_below, or_lt, mod-mul-add, mul-mod, div-add-mod'}
-use Rattle.std.proofs.lemmas.Option.{same_Some, none-some}
-use Rattle.std.proofs.lemmas.List.{get_or-set_same, get_or-set_other, length-set}
-use Rattle.ds_base.proofs.Choices.{same_or_not}
-use Rattle.ds_base.specs.Memories.{space_size}
-use Rattle.ds_base.specs.Numbers.{width_bytes, aligned_down, value_by, put_by}
-use Rattle.ds_base.specs.declared.memories.Space.{Space}
-use Rattle.ds_base.specs.declared.memories.Space.TheVariants.{ABg, BBg, AObj, BObj, Lcdc, Arm7, ABgPalette, BBgPalette, AObjPalette, BObjPalette}
-use Rattle.ds_base.specs.declared.memories.Width.{Width}
-use Rattle.ds_base.specs.declared.memories.Width.TheVariants.{Byte, Half, Word}
-use Rattle.vram_banks.specs.BankMap.{BankRow, chosen_row, row_start, first_cell, IsThere}
-use Rattle.vram_banks.specs.paging.Flat.{origin_of, window_of, cell_of, or_at, put_in_cells}
-use Rattle.vram_banks.specs.Cells.{Banks, byte_or_0, or_below, put_there, put_below, cell_there, vram_byte, with_vram_byte, vram_value, vram_written, IsOr, IsCellAt, IsRead, IsWritten}
+use Rattle.std.proofs.lemmas.Nat.{or_lt, mod-mul-add, mul-mod, div-add-mod'}
+use Rattle.std.proofs.lemmas.List.{length-set}
+use Rattle.vram_banks.specs.BankMap.{IsThere}
 use Rattle.vram_banks.proofs.MapLaws.{stands_cell, cell_stands, there_flat, Found, found_window, one_cell, fits_of, first_cell-inside}
 
 -- some bank's cell stands at a flat address

@@ -1,4 +1,4 @@
-use Rattle.std.specs.Prelude.{ℕ, Bool, ◌≢◌, ◌≤◌, ◌+◌, ◌*◌, ◌%◌, ◌^◌, ◌==◌, if◌then◌else◌, List}
+use Rattle.std.specs.Prelude.{ℕ, Bool, ◌≡◌, ◌≢◌, ◌<◌, ◌≤◌, ◌+◌, ◌*◌, ◌%◌, ◌^◌, ◌==◌, if◌then◌else◌, List, slice_index}
 use Rattle.ds_base.specs.Numbers.{number_at}
 use Rattle.ds_base.specs.declared.memories.Space.{Space}
 use Rattle.ds_base.specs.declared.memories.Width.TheVariants.{Half}
@@ -31,3 +31,7 @@ extended_colour v space at index = vram_value v space (at + 2 * index) Half
 -- each palette of sixteen
 abbrev pub table_pixel : Bool → List ℕ → ℕ → ℕ
 table_pixel wide palette index = if index % (if wide then 256 else 16) == 0 then 0 else opaque_pixel (palette_colour palette index)
+
+-- a table has these pixels
+abbrev pub IsTable : Bool → List ℕ → List ℕ → Type 0
+IsTable wide palette table = (i : ℕ) → i < 256 → slice_index table i ≡ table_pixel wide palette i

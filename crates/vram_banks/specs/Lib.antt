@@ -1,6 +1,6 @@
 pub mod BankMap
 pub mod Cells
-pub mod Mixes
+pub mod MixLaws
 pub mod paging
 pub mod Bases
 pub mod Colours

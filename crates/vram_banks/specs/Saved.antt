@@ -1,6 +1,6 @@
 use Rattle.std.specs.Prelude.{ℕ, ◌==◌, Bool, [], ◌∷◌, slice_index}
 use Rattle.ds_state.specs.Formats.{Format, number_code, array, done, ◌>>=◌, one_field, any}
-use Rattle.ds_state.specs.Laws.{OneSpelling, RoundTrips}
+use Rattle.ds_state.specs.FormatLaws.{OneSpelling, RoundTrips}
 use Rattle.vram_banks.specs.BankMap.{kept_bank_control}
 use Rattle.vram_banks.specs.Cells.{Banks, AreBanks}
 

@@ -13,7 +13,7 @@ mod saved;
 use crate::cells::Cells;
 use crate::maps::{BankMap, PAGE, Page};
 use crate::windows::{LARGEST, flat};
-use ds_base::{Space, Width};
+use ds_base::{Space, Width, known};
 use std::alloc::{AllocError, Global};
 use std::marker::Model;
 
@@ -79,6 +79,7 @@ impl Vram {
     }
 
     /// The OR of all cells at a flat address, bank by bank.
+    #[inline(never)]
     #[tactic(auto, using(crate::proofs::CellLemmas::or_none, crate::proofs::CellLemmas::or_more), unfolding(crate::specs::paging::Flat::or_at))]
     fn byte_of_several(&self, x: u32) -> u8
         ensures { result ≡ or_at self.now.controls self.now.bytes x }
@@ -91,6 +92,7 @@ impl Vram {
         all
     }
 
+    #[inline(always)]
     fn byte(&self, x: u32) -> u8
         requires { x < 0x254000 }
         ensures { result ≡ value_by Byte (or_at self.now.controls self.now.bytes) x }
@@ -125,6 +127,7 @@ impl Vram {
         ])
     }
 
+    #[inline(always)]
     fn half(&self, x: u32) -> u16
         requires even { x % 2 ≡ 0 }
         requires small { x < 0x254000 }
@@ -137,6 +140,7 @@ impl Vram {
         }
     }
 
+    #[inline(always)]
     fn word(&self, x: u32) -> u32
         requires whole { x % 4 ≡ 0 }
         requires small { x < 0x254000 }
@@ -150,6 +154,7 @@ impl Vram {
     }
 
     /// An access at a flat address.
+    #[inline(always)]
     fn read_flat(&self, x: u32, width: Width) -> u32
         requires { x < 0x254000 }
         ensures value { result ≡ value_by width (or_at self.now.controls self.now.bytes) (aligned_down width x) }
@@ -168,6 +173,15 @@ impl Vram {
         ensures value { result ≡ vram_value self.now space at width }
         ensures narrow { result < 256 ^ width_bytes width }
         ensures stands { IsRead self.now space at width result }
+    {
+        self.read_in_line(space, at, width)
+    }
+
+    /// The same, compiled into the place of the call, for loops over many accesses of one space and width.
+    #[inline(always)]
+    pub fn read_in_line(&self, space: Space, at: u32, width: Width) -> u32
+        ensures value { result ≡ vram_value self.now space at width }
+        ensures narrow { result < 256 ^ width_bytes width }
     {
         self.read_flat(flat(space, at), width)
     }
@@ -318,8 +332,8 @@ impl Vram {
         ensures allotted { (space : Space) → (at cell : ℕ) → IsCellAt self.now space at cell → (is_allotted self.now.controls cell ≡ true)
             ↔ (space ≡ Arm7) }
     {
-        self.cells.byte_laws();
-        self.map.control_laws();
+        known!(self.cells.byte_laws());
+        known!(self.map.control_laws());
     }
 
     /// The memory of all banks, 671,744 bytes in the order A to I, from where they lie.

@@ -6,6 +6,7 @@ ghost use Rattle.vram_banks.specs.Bases.{background_space, background_palette_sp
 use ds_base::Space;
 
 /// The space of an engine's backgrounds.
+#[inline(always)]
 pub fn background_space(engine: u8) -> Space
     ensures { result ≡ background_space engine }
 {
@@ -13,6 +14,7 @@ pub fn background_space(engine: u8) -> Space
 }
 
 /// The space of their extended palettes.
+#[inline(always)]
 pub fn background_palette_space(engine: u8) -> Space
     ensures { result ≡ background_palette_space engine }
 {
@@ -24,6 +26,7 @@ pub fn background_palette_space(engine: u8) -> Space
 }
 
 /// A base of 64K steps, which engine A alone has.
+#[inline(always)]
 fn display_base(engine: u8, field: u32) -> u32
     requires { field < 8 }
     ensures value { result ≡ display_base engine field }
@@ -33,6 +36,7 @@ fn display_base(engine: u8, field: u32) -> u32
 }
 
 /// The map's base.
+#[inline(always)]
 pub fn map_base(engine: u8, display: u32, control: u16) -> u32
     ensures value { result ≡ map_base engine display control }
     ensures small { result < 0x90000 }
@@ -41,6 +45,7 @@ pub fn map_base(engine: u8, display: u32, control: u16) -> u32
 }
 
 /// The tiles' base.
+#[inline(always)]
 pub fn tile_base(engine: u8, display: u32, control: u16) -> u32
     ensures value { result ≡ tile_base engine display control }
     ensures small { result < 0xC0000 }

@@ -7,7 +7,7 @@ ghost use Rattle.ds_state.specs.Formats.{array};
 ghost use Rattle.ds_state.specs.Reading.{GivesIn, read_code};
 ghost use Rattle.vram_banks.specs.Saved.{banks_size};
 
-use ds_base::VRAM_BYTES;
+use ds_base::{VRAM_BYTES, known};
 use ds_state::{Unpacked, Unpacker};
 use std::alloc::{AllocError, Global};
 use std::marker::Model;
@@ -40,7 +40,7 @@ fn zeroed(alloc: Global, count: usize) -> Result<Vec<u8>, AllocError>
 fn are_narrow(bytes: &[u8])
     ensures { (i : ℕ) → slice_index bytes.now i < 256 }
 {
-    let _ = bytes;
+    known!(bytes);
 }
 
 /// Puts a half at a place, by one store.
@@ -93,7 +93,7 @@ impl Cells {
         ensures long { length self.now ≡ 0xA4000 }
         ensures narrow { (i : ℕ) → slice_index self.now i < 256 }
     {
-        are_narrow(self.bytes.as_slice());
+        known!(are_narrow(self.bytes.as_slice()));
     }
 
     pub fn byte(&self, at: u32) -> u8

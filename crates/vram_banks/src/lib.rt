@@ -41,9 +41,9 @@ pub use banks::Vram;
 pub use bases::{background_palette_space, background_space, map_base, tile_base};
 pub use colours::{
     byte, colour_pixel, extended_pixel, fill_table, half, opaque_pixel, paint_by_table,
-    paint_extended, paint_standard, palette_colour, standard_pixel,
+    paint_nibbles, paint_standard, palette_colour, standard_pixel,
 };
 pub use points::{affine_coordinate, place_within};
 pub use rows::Row;
 pub use saved::saved_laws;
-pub use tiles::{copy_eight, copy_four, flipped, unpack};
+pub use tiles::{copy_eight, flipped, row_word};

@@ -155,6 +155,7 @@ impl BankMap {
     }
 
     /// What stands at a flat address.
+    #[inline(always)]
     pub fn found(&self, x: u32) -> Page
         requires { x < 0x254000 }
         ensures { IsFound self.now x result }

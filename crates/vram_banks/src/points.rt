@@ -5,6 +5,7 @@ ghost use Rattle.std.specs.Int.{int_shr};
 ghost use Rattle.vram_banks.specs.Points.{affine_coordinate, place_within};
 
 /// So many steps. The bounds are those of a step's and a place's ranges.
+#[inline(always)]
 fn steps(step: i16, x: u8) -> i64
     ensures value { result ≡ step *ℤ pos x }
     ensures low { negsuc (2 ^ 23) ≤ℤ result }
@@ -14,6 +15,7 @@ fn steps(step: i16, x: u8) -> i64
 }
 
 /// A sum with 8 fractional bits.
+#[inline(always)]
 fn sum(first: i32, more: i64) -> i64
     requires low { negsuc (2 ^ 23) ≤ℤ more }
     requires high { more ≤ℤ pos (2 ^ 23) }
@@ -25,6 +27,7 @@ fn sum(first: i32, more: i64) -> i64
 }
 
 /// A coordinate with 8 fractional bits, which are cut off downwards.
+#[inline(always)]
 fn whole(coordinate: i64) -> i32
     requires low { negsuc (2 ^ 32) ≤ℤ coordinate }
     requires high { coordinate ≤ℤ pos (2 ^ 32) }
@@ -34,6 +37,7 @@ fn whole(coordinate: i64) -> i32
 }
 
 /// A coordinate of the point shown at place x of a line.
+#[inline(always)]
 pub fn affine_coordinate(first: i32, step: i16, x: u8) -> i32
     ensures { result ≡ affine_coordinate first step x }
 {
@@ -41,6 +45,7 @@ pub fn affine_coordinate(first: i32, step: i16, x: u8) -> i32
 }
 
 /// The place on a background of a coordinate.
+#[inline(always)]
 pub fn place_within(wraps: bool, size: u32, coordinate: i32) -> Option<u32>
     requires some { 0 < size }
     ensures value { result ≡ place_within wraps size coordinate }

@@ -20,6 +20,7 @@ pub struct Window {
 }
 
 /// Where a space begins among the flat addresses.
+#[inline(always)]
 fn origin(space: Space) -> u32
     ensures { result ≡ origin_of space }
 {
@@ -37,23 +38,33 @@ fn origin(space: Space) -> u32
     }
 }
 
-/// The flat address of an address in a space, which is taken by remainder of the space's size.
+/// A space's size less one, which is the mask of an address in it.
+#[inline(always)]
+fn mask(space: Space) -> u32
+    ensures { result ≡ space_size space - 1 }
+{
+    match space {
+        Space::ABg => 0x7ffff,
+        Space::BBg => 0x1ffff,
+        Space::AObj => 0x3ffff,
+        Space::BObj => 0x1ffff,
+        Space::Lcdc => 0xfffff,
+        Space::Arm7 => 0x3ffff,
+        Space::ABgPalette => 0x7fff,
+        Space::BBgPalette => 0x7fff,
+        Space::AObjPalette => 0x1fff,
+        Space::BObjPalette => 0x1fff,
+    }
+}
+
+/// The flat address of an address in a space, which is taken by remainder of the space's size. Where the space is the same in a loop, its origin and
+/// its mask are found once.
+#[inline(always)]
 pub fn flat(space: Space, at: u32) -> u32
     ensures value { result ≡ origin_of space + at % space_size space }
     ensures small { result < 0x254000 }
 {
-    match space {
-        Space::ABg => at % 0x80000,
-        Space::BBg => 0x80000 + at % 0x20000,
-        Space::AObj => 0xa0000 + at % 0x40000,
-        Space::BObj => 0xe0000 + at % 0x20000,
-        Space::Lcdc => 0x100000 + at % 0x100000,
-        Space::Arm7 => 0x200000 + at % 0x40000,
-        Space::ABgPalette => 0x240000 + at % 0x8000,
-        Space::BBgPalette => 0x248000 + at % 0x8000,
-        Space::AObjPalette => 0x250000 + at % 0x2000,
-        Space::BObjPalette => 0x252000 + at % 0x2000,
-    }
+    origin(space) + (at & mask(space))
 }
 
 /// Where a bank's bytes begin in the memory of all banks.

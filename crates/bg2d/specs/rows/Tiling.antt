@@ -1,10 +1,10 @@
-use Rattle.std.specs.Prelude.{ℕ, Bool, ◌&&◌, false, ◌≡◌, ◌<◌, ◌+◌, ◌*◌, ◌/◌, ◌%◌, ◌^◌, if◌then◌else◌, List, slice_index}
+use Rattle.std.specs.Prelude.{ℕ, Bool, ◌&&◌, ◌≡◌, ◌<◌, ◌+◌, ◌*◌, ◌/◌, ◌%◌, ◌^◌, if◌then◌else◌, List, slice_index}
 use Rattle.ds_base.specs.Bits.{bit}
 use Rattle.vram_banks.specs.Cells.{Banks, vram_byte}
 use Rattle.bg2d.specs.declared.layers.TextLayer.{TextLayer}
 use Rattle.bg2d.specs.declared.texts.KeptPalette.{KeptPalette}
 use Rattle.vram_banks.specs.Bases.{background_space, background_palette_space, map_base, tile_base}
-use Rattle.vram_banks.specs.Colours.{indexed_pixel, table_pixel}
+use Rattle.vram_banks.specs.Colours.{indexed_pixel}
 use Rattle.bg2d.specs.TextPixels.{has_256, text_block, text_width, text_entry, text_index, text_colour, text_entry_pixel}
 use Rattle.vram_banks.specs.Tiles.{flipped}
 
@@ -18,6 +18,12 @@ block_line layer x y = map_base layer.engine layer.display layer.control + 0x800
 abbrev pub IsBlockLine : Banks → TextLayer → ℕ → ℕ → List ℕ → Type 0
 IsBlockLine v layer x y bytes = (i : ℕ) → i < 64 → slice_index bytes i ≡ vram_byte v (background_space layer.engine) (block_line layer x y + i)
 
+-- those of the first n blocks across: of the left one and of the right one, or of the left one again where there is no other
+abbrev pub AreBlockLines : Banks → TextLayer → ℕ → List ℕ → ℕ → Type 0
+AreBlockLines v layer y bytes n =
+    (h i : ℕ) → h < n → i < 64 →
+    slice_index bytes (64 * h + i) ≡ vram_byte v (background_space layer.engine) (block_line layer (256 * h % text_width layer) y + i)
+
 -- where the row of an entry's tile begins that shows line y of the background
 abbrev pub tile_row : TextLayer → ℕ → ℕ → ℕ
 tile_row layer entry y =
@@ -29,27 +35,22 @@ tile_row layer entry y =
 abbrev pub AreEntries : Banks → TextLayer → ℕ → ℕ → List ℕ → ℕ → Type 0
 AreEntries v layer first y entries n = (k : ℕ) → k < n → slice_index entries k ≡ text_entry v layer ((first + 8 * k) % text_width layer) y
 
--- the first n tiles' rows of bytes, `count` bytes each
-abbrev pub ArePacked : Banks → TextLayer → ℕ → List ℕ → ℕ → List ℕ → ℕ → Type 0
-ArePacked v layer y entries count bytes n =
-    (k i : ℕ) → k < n → i < count → slice_index bytes (count * k + i)
-    ≡ vram_byte v (background_space layer.engine) (tile_row layer (slice_index entries k) y + i)
-
 -- the indices of 33 tiles' rows, eight each
 abbrev pub AreIndices : Banks → TextLayer → ℕ → List ℕ → List ℕ → Type 0
 AreIndices v layer y entries indices =
     (k i : ℕ) → k < 33 → i < 8 →
     slice_index indices (8 * k + i) ≡ text_index v layer (slice_index entries k) i (flipped (bit 11 (slice_index entries k)) (y % 8))
 
--- indices of 16 colours are below 16
-abbrev pub AreNarrow : TextLayer → List ℕ → Type 0
-AreNarrow layer indices = has_256 layer ≡ false → (i : ℕ) → i < 264 → slice_index indices i < 16
-
 -- the pixel at place x of a row whose first tile's left edge is `fine` pixels left of the screen
 abbrev pub tiled_pixel : Banks → List ℕ → TextLayer → ℕ → List ℕ → ℕ → ℕ → ℕ
 tiled_pixel v palette layer y entries fine x = text_entry_pixel v palette layer (slice_index entries ((fine + x) / 8)) (fine + x) y
 
--- the pixels of the first n tiles, eight each, from their indices
+-- the pixels of the first n tiles, eight each
+abbrev pub AreTiles : Banks → List ℕ → TextLayer → ℕ → List ℕ → List ℕ → ℕ → Type 0
+AreTiles v palette layer y entries pixels n =
+    (k i : ℕ) → k < n → i < 8 → slice_index pixels (8 * k + i) ≡ text_entry_pixel v palette layer (slice_index entries k) i y
+
+-- the same, from their indices
 abbrev pub ArePainted : Banks → List ℕ → TextLayer → List ℕ → List ℕ → List ℕ → ℕ → Type 0
 ArePainted v palette layer entries indices pixels n =
     (k i : ℕ) → k < n → i < 8 →
@@ -59,10 +60,6 @@ ArePainted v palette layer entries indices pixels n =
 -- the background has extended palettes
 abbrev pub is_extended : TextLayer → Bool
 is_extended layer = has_256 layer && bit 30 layer.display
-
--- a table has the pixels of the standard palette
-abbrev pub IsTable : TextLayer → List ℕ → List ℕ → Type 0
-IsTable layer palette table = (i : ℕ) → i < 256 → slice_index table i ≡ table_pixel (has_256 layer) palette i
 
 -- an extended palette was read where it says
 abbrev pub IsKept : Banks → TextLayer → KeptPalette → Type 0

@@ -1,5 +1,5 @@
 use Rattle.std.specs.Prelude.{ℕ, ◌≡◌, ◌<◌, ◌+◌, ◌-◌, ◌*◌, ◌/◌, ◌%◌, nat_lt, Bool, false, if◌then◌else◌, List, slice_index}
-use Rattle.vram_banks.specs.Cells.{Banks, vram_byte}
+use Rattle.vram_banks.specs.Cells.{Banks}
 use Rattle.vram_banks.specs.Colours.{indexed_pixel}
 use Rattle.vram_banks.specs.Tiles.{flipped}
 use Rattle.obj2d.specs.declared.layers.ObjectPixel.{ObjectPixel}
@@ -8,7 +8,7 @@ use Rattle.obj2d.specs.declared.objects.Object.{Object}
 use Rattle.obj2d.specs.Attributes.{object_at, object_has_256, width, box_width, priority, mode, flips_across}
 use Rattle.obj2d.specs.Places.{across, is_drawn}
 use Rattle.obj2d.specs.ObjectLayer.{SeenObject, with_object}
-use Rattle.obj2d.specs.ObjectPixels.{object_space, object_index, object_colour, tile_address, box_pixel}
+use Rattle.obj2d.specs.ObjectPixels.{object_colour, point_pixel, tile_address, box_pixel}
 
 -- How the code draws a row: an object's box has a strip of pixels, and strips are laid over one another. No public call speaks of it.
 
@@ -16,26 +16,25 @@ use Rattle.obj2d.specs.ObjectPixels.{object_space, object_index, object_colour, 
 abbrev pub object_tile_row : Display → Object → ℕ → ℕ → ℕ
 object_tile_row display o y tx = tile_address display o tx (y / 8) + (if object_has_256 o then 8 else 4) * (y % 8)
 
--- the first n tiles' rows of bytes, `count` bytes each
-abbrev pub AreTileRows : Banks → Display → Object → ℕ → ℕ → List ℕ → ℕ → Type 0
-AreTileRows v display o y count bytes n =
-    (k i : ℕ) → k < n → i < count → slice_index bytes (count * k + i) ≡ vram_byte v (object_space display.engine) (object_tile_row display o y k + i)
+-- how many colours an object's palette has
+abbrev pub object_colours : Object → ℕ
+object_colours o = if object_has_256 o then 256 else 16
 
--- the indices of the object's line y
-abbrev pub AreLineIndices : Banks → Display → Object → ℕ → List ℕ → Type 0
-AreLineIndices v display o y indices = (x : ℕ) → x < width o → slice_index indices x ≡ object_index v display o x y
+-- a table has the pixels of an object's colours from one place on
+abbrev pub IsColoured : Banks → List ℕ → Display → Object → List ℕ → ℕ → Type 0
+IsColoured v palette display o table start =
+    (index : ℕ) → index < object_colours o → slice_index table (start + index) ≡ indexed_pixel (object_colour v palette display o) index
 
 -- which tile of so many stands at place k of a row, flipped or not
 abbrev pub mirrored_tile : Bool → ℕ → ℕ → ℕ
 mirrored_tile flip count k = if flip then count - 1 - k else k
 
--- the pixels of the first n tiles of the strip, eight each, from the object's indices
-abbrev pub AreObjectPixels : Banks → List ℕ → Display → Object → List ℕ → List ℕ → ℕ → Type 0
-AreObjectPixels v palette display o indices pixels n =
+-- the pixels of the first n tiles of line y of an object that isn't affine, eight each
+abbrev pub AreObjectPixels : Banks → List ℕ → Display → Object → ℕ → List ℕ → ℕ → Type 0
+AreObjectPixels v palette display o y pixels n =
     (k i : ℕ) → k < n → i < 8 →
     slice_index pixels (8 * k + i)
-    ≡ indexed_pixel (object_colour v palette display o)
-    (slice_index indices (8 * mirrored_tile (flips_across o) (width o / 8) k + flipped (flips_across o) i))
+    ≡ point_pixel v palette display o (8 * mirrored_tile (flips_across o) (width o / 8) k + flipped (flips_across o) i) y
 
 -- the pixels of line y of the box
 abbrev pub AreBox : Banks → List ℕ → List ℕ → Display → Object → ℕ → List ℕ → Type 0

@@ -260,6 +260,144 @@ fn entries_have_flips_and_palettes_where_bit_30_is_set(rt: HostRuntime) -> Resul
     )
 }
 
+// Tile 3FFh begins at 8000h + FFC0h, 200h at 8000h + 8000h, and 1FFh, which has the same nine bits as the first, at 8000h + 7FC0h. Palette n of
+// slot m begins at 2000h m + 200h n.
+#[test]
+fn entries_have_ten_bits_of_a_tile_and_four_of_a_palette(
+    rt: HostRuntime,
+) -> Result<(), AllocError> {
+    try_lines(
+        &rt,
+        rt.alloc(),
+        &[
+            Control(0, 0x81),
+            Control(4, 0x84),
+            Write(ABg, 0x1_7fc0, Byte, 0x05),
+            Write(ABg, 0xffc0, Byte, 0x06),
+            Write(ABg, 0x1_0000, Byte, 0x07),
+            Write(ABg, 0x8000, Byte, 0x08),
+            Write(ABg, 0, Half, 0x03ff),
+            Write(ABg, 2, Half, 0x01ff),
+            Write(ABg, 4, Half, 0x0200),
+            Write(ABg, 6, Half, 0x0000),
+            Extended(0, 2, 0, 0x0008, 0, 0, 0x100, 0, 0, 0xc005),
+            Extended(0, 2, 0, 0x0008, 0, 0, 0x100, 1, 0, 0xc005),
+            Extended(0, 2, 0, 0x0008, 0, 0, 0x100, 0, 8, 0xc006),
+            Extended(0, 2, 0, 0x0008, 0, 0, 0x100, 0, 16, 0xc007),
+            Extended(0, 2, 0, 0x0008, 0, 0, 0x100, 1, 16, 0xc007),
+            Extended(0, 2, 0, 0x0008, 0, 0, 0x100, 0, 24, 0xc008),
+            // colour 5 of palettes 12 and 4 of slot 2, of 15 and 7 of slot 3, and of 8 and 0 of slot 2
+            Write(ABgPalette, 0x580a, Half, 0x1111),
+            Write(ABgPalette, 0x480a, Half, 0x2222),
+            Write(ABgPalette, 0x7e0a, Half, 0x3333),
+            Write(ABgPalette, 0x6e0a, Half, 0x4444),
+            Write(ABgPalette, 0x500a, Half, 0x5555),
+            Write(ABgPalette, 0x400a, Half, 0x6666),
+            Write(ABg, 0, Half, 0xc3ff),
+            Extended(0, 2, 0x4000_0000, 0x0008, 0, 0, 0x100, 0, 0, 0x9111),
+            Extended(0, 2, 0x4000_0000, 0x0008, 0, 0, 0x100, 1, 0, 0x9111),
+            Extended(0, 2, 0, 0x0008, 0, 0, 0x100, 0, 0, 0xc005),
+            Write(ABg, 0, Half, 0xf3ff),
+            Extended(0, 3, 0x4000_0000, 0x0008, 0, 0, 0x100, 0, 0, 0xb333),
+            Write(ABg, 0, Half, 0x83ff),
+            Extended(0, 2, 0x4000_0000, 0x0008, 0, 0, 0x100, 0, 0, 0xd555),
+            Write(ABg, 0, Half, 0x43ff),
+            Extended(0, 2, 0x4000_0000, 0x0008, 0, 0, 0x100, 0, 0, 0xa222),
+        ],
+    )
+}
+
+// 256 places show a part of a bitmap's line, which ends at its right edge or past it; behind a line's last pixel there is the next line's first,
+// which isn't shown. The bitmap of bytes begins at 4000h.
+#[test]
+fn parts_of_lines_end_at_the_right_edge(rt: HostRuntime) -> Result<(), AllocError> {
+    try_lines(
+        &rt,
+        rt.alloc(),
+        &[
+            Control(0, 0x81),
+            Control(1, 0x89),
+            Write(ABg, 0, Half, 0x8001),
+            Write(ABg, 0x1fe, Half, 0x8002),
+            Write(ABg, 0x200, Half, 0x8003),
+            Write(ABg, 0x3fe, Half, 0x8004),
+            Write(ABg, 0x400, Half, 0x8005),
+            // 512 wide, from columns 256 and 257 on
+            Extended(0, 2, 0, 0x8084, 0x1_0000, 0, 0x100, 0, 0, 0x8003),
+            Extended(0, 2, 0, 0x8084, 0x1_0000, 0, 0x100, 0, 255, 0x8004),
+            Extended(0, 2, 0, 0x8084, 0x1_00ff, 0, 0x100, 0, 255, 0x8004),
+            Extended(0, 2, 0, 0x8084, 0x1_0100, 0, 0x100, 0, 254, 0x8004),
+            Extended(0, 2, 0, 0x8084, 0x1_0100, 0, 0x100, 0, 255, 0),
+            Extended(0, 2, 0, 0xa084, 0x1_0100, 0, 0x100, 0, 255, 0x8001),
+            // 256 wide, from columns 0, 1 and -1 on
+            Extended(0, 2, 0, 0x4084, 0, 0, 0x100, 0, 255, 0x8002),
+            Extended(0, 2, 0, 0x4084, 0x100, 0, 0x100, 0, 254, 0x8002),
+            Extended(0, 2, 0, 0x4084, 0x100, 0, 0x100, 0, 255, 0),
+            Extended(0, 2, 0, 0x6084, 0x100, 0, 0x100, 0, 255, 0x8001),
+            Extended(0, 2, 0, 0x4084, -0x100, 0, 0x100, 0, 0, 0),
+            Extended(0, 2, 0, 0x4084, -0x100, 0, 0x100, 0, 1, 0x8001),
+            // the same of bytes
+            Write(ABg, 0x4000, Byte, 0x21),
+            Write(ABg, 0x40ff, Byte, 0x22),
+            Write(ABg, 0x4100, Byte, 0x23),
+            Write(ABg, 0x41ff, Byte, 0x24),
+            Write(ABg, 0x4200, Byte, 0x25),
+            Extended(0, 2, 0, 0x8180, 0x1_0000, 0, 0x100, 0, 0, 0xc023),
+            Extended(0, 2, 0, 0x8180, 0x1_0000, 0, 0x100, 0, 255, 0xc024),
+            Extended(0, 2, 0, 0x8180, 0x1_0100, 0, 0x100, 0, 254, 0xc024),
+            Extended(0, 2, 0, 0x8180, 0x1_0100, 0, 0x100, 0, 255, 0),
+            Extended(0, 2, 0, 0xa180, 0x1_0100, 0, 0x100, 0, 255, 0xc021),
+            Extended(0, 2, 0, 0x4180, 0, 0, 0x100, 0, 255, 0xc022),
+            Extended(0, 2, 0, 0x4180, 0x100, 0, 0x100, 0, 254, 0xc022),
+            Extended(0, 2, 0, 0x4180, 0x100, 0, 0x100, 0, 255, 0),
+            Extended(0, 2, 0, 0x6180, 0x100, 0, 0x100, 0, 255, 0xc021),
+        ],
+    )
+}
+
+// A turned row's first and last places, by PC 1, which doesn't leave line 0 in 256 places, and by PC -1, which leaves line 1 behind its first; its
+// columns go up and down.
+#[test]
+fn turned_rows_have_their_first_and_last_columns(rt: HostRuntime) -> Result<(), AllocError> {
+    try_lines(
+        &rt,
+        rt.alloc(),
+        &[
+            Control(0, 0x81),
+            Write(ABg, 0, Half, 0x8001),
+            Write(ABg, 0x1fe, Half, 0x8002),
+            Write(ABg, 0x200, Half, 0x8003),
+            Extended(0, 2, 0, 0x4084, 0, 0, 0x100, 1, 0, 0x8001),
+            Extended(0, 2, 0, 0x4084, 0, 0, 0x100, 1, 255, 0x8002),
+            Extended(0, 2, 0, 0x4084, 0, 0x100, 0x100, -1, 0, 0x8003),
+            Extended(0, 2, 0, 0x4084, 0, 0x100, 0x100, -1, 255, 0x8002),
+            Extended(0, 2, 0, 0x4084, -0x100, 0, 0x100, 1, 0, 0),
+            Extended(0, 2, 0, 0x4084, -0x100, 0, 0x100, 1, 1, 0x8001),
+            Extended(0, 2, 0, 0x4084, 0x100, 0, 0x100, 1, 254, 0x8002),
+            Extended(0, 2, 0, 0x4084, 0x100, 0, 0x100, 1, 255, 0),
+            Extended(0, 2, 0, 0x4084, 0xff00, 0, -0x100, 1, 0, 0x8002),
+            Extended(0, 2, 0, 0x4084, 0xff00, 0, -0x100, 1, 255, 0x8001),
+            Extended(0, 2, 0, 0x6084, 0x100, 0, 0x100, 1, 255, 0x8001),
+            // of bytes
+            Write(ABg, 0x4000, Byte, 0x21),
+            Write(ABg, 0x40ff, Byte, 0x22),
+            Write(ABg, 0x4100, Byte, 0x23),
+            Extended(0, 2, 0, 0x4180, 0, 0, 0x100, 1, 0, 0xc021),
+            Extended(0, 2, 0, 0x4180, 0, 0, 0x100, 1, 255, 0xc022),
+            Extended(0, 2, 0, 0x4180, 0x100, 0, 0x100, 1, 255, 0),
+            Extended(0, 2, 0, 0x4180, 0, 0x100, 0x100, -1, 0, 0xc023),
+            // of a map of 256 by 256, whose entries begin at 800h and whose tiles at 8000h: tile 1 at both ends of its first line of entries
+            Count(ABg, 0x8000),
+            Write(ABg, 0x800, Half, 1),
+            Write(ABg, 0x83e, Half, 1),
+            Extended(0, 2, 0, 0x4108, 0, 0, 0x100, 1, 0, 0xc040),
+            Extended(0, 2, 0, 0x4108, 0, 0, 0x100, 1, 255, 0xc047),
+            Extended(0, 2, 0, 0x4108, 0x100, 0, 0x100, 1, 255, 0),
+            Extended(0, 2, 0, 0x6108, 0x100, 0, 0x100, 1, 255, 0xc040),
+        ],
+    )
+}
+
 // Maps have the bases of affine backgrounds: 2K steps and 64K steps of engine A.
 #[test]
 fn bases_of_maps_are_those_of_the_controls(rt: HostRuntime) -> Result<(), AllocError> {

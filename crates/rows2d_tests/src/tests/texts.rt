@@ -103,6 +103,10 @@ fn an_entry_has_a_tile_flips_and_a_palette(rt: HostRuntime) -> Result<(), AllocE
             Entry(0x0802, 0x0088, 0, 0, 0xc091),
             Entry(0x5002, 0x0088, 0, 2, 0xc003),
             Entry(0x5002, 0x0088, 0, 4, 0),
+            // all ten bits of its tile count there too: 3FFh at 8000h + FFC0h
+            Write(ABg, 0x1_7fc0, Byte, 0x3d),
+            Entry(0x03ff, 0x0088, 0, 0, 0xc03d),
+            Entry(0x01ff, 0x0088, 0, 0, 0),
         ],
     )
 }
@@ -190,6 +194,14 @@ fn extended_palettes_have_slots(rt: HostRuntime) -> Result<(), AllocError> {
             Text(0, 3, 0x4000_0000, 0x2084, 0, 0x8103),
             Text(1, 0, 0x4000_0000, 0x2084, 0, 0x8202),
             Text(1, 3, 0x4000_0000, 0x0084, 0, 0x8203),
+            // palettes 13 and 15, whose lower three bits are those of 5 and 7
+            Write(ABgPalette, 0x1a0e, Half, 0x0110),
+            Write(ABgPalette, 0x7e0e, Half, 0x0111),
+            Write(ABg, 0, Half, 0xd001),
+            Text(0, 0, 0x4000_0000, 0x0084, 0, 0x8110),
+            Write(ABg, 0, Half, 0xf001),
+            Text(0, 3, 0x4000_0000, 0x0084, 0, 0x8111),
+            Write(ABg, 0, Half, 0x5001),
             // index 0 is transparent here too; without bit 30, and with 16 colours, the standard palette counts
             Text(0, 0, 0x4000_0000, 0x0084, 1, 0),
             Text(0, 0, 0x8000_0000, 0x0084, 0, 0xc007),

@@ -36,7 +36,7 @@ fn put_register(
 }
 
 /// Puts an engine's registers, in the order of their offsets.
-#[tactic(auto, using(crate::proofs::SavedLoops::put_past, crate::proofs::SavedLoops::put_on), unfolding(crate::specs::Saved::ports_format))]
+#[tactic(auto, using(crate::proofs::SavedLoops::put_past, crate::proofs::SavedLoops::put_on))]
 fn put_registers(into: &mut Packer, ports: &[u8; PORTS], which: Engine) -> Result<(), AllocError>
     ensures { OnOk result (into.new ≡ bytes_written (ports_format which) into.old ports.now) }
 {

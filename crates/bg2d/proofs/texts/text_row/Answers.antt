@@ -5,7 +5,7 @@ use Rattle.bg2d.specs.TextPixels.{text_width, text_height, text_entry}
 use Rattle.bg2d.specs.rows.Tiling.{tiled_pixel, AreEntries}
 use Rattle.vram_banks.specs.Colours.{HasForm}
 use Rattle.bg2d.proofs.FormLemmas.{text_form}
-use Rattle.bg2d.proofs.TilingLemmas.{painted_is_tiled, tiled_is_text, index_of_range}
+use Rattle.bg2d.proofs.TilingLemmas.{tiles_are_tiled, tiled_is_text, index_of_range}
 use Rattle.bg2d.proofs.texts.text_row.Goals as goal
 
 pub returns-clause-row : goal.returns-clause-row
@@ -14,8 +14,7 @@ returns-clause-row c = λ x lt.
     let palette : List ℕ = c.args.palette.now in
     let layer : TextLayer = c.args.layer.now in
     let entries : List ℕ = c.text_entries.new.into in
-    let indices : List ℕ = c.text_indices.new.into in
-    let pixels : List ℕ = c.paint.new.into in
+    let pixels : List ℕ = c.paint_tiles.new.into in
     let fine : ℕ = layer.across % 8 in
     let down : ℕ = c.args.line + layer.down in
     let first : ℕ → ℕ = λ width. layer.across % width / 8 * 8 in
@@ -24,7 +23,7 @@ returns-clause-row c = λ x lt.
     ∙ ap (λ (width : ℕ). text_entry v layer ((first width + 8 * k) % text_width layer) (down % c.text_height.result)) c.text_width.ensures
     ∙ ap (λ (height : ℕ). text_entry v layer ((first (text_width layer) + 8 * k) % text_width layer) (down % height)) c.text_height.ensures) in
     ap (λ (row : List ℕ). get_or row x 0) c.clip.ensures ∙ index_of_range pixels fine 256 x lt
-    ∙ painted_is_tiled v palette layer (down % c.text_height.result) fine x entries indices pixels (omega arith) c.text_indices.ensures.value c.paint.ensures
+    ∙ tiles_are_tiled v palette layer (down % c.text_height.result) fine x entries pixels (omega arith) c.paint_tiles.ensures
     ∙ ap (λ (height : ℕ). tiled_pixel v palette layer (down % height) entries fine x) c.text_height.ensures
     ∙ tiled_is_text v palette layer c.args.line x entries lt are
 

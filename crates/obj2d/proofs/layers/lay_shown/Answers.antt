@@ -1,5 +1,5 @@
 use Rattle.std.proofs.Common.{ℕ, ◌≡◌, ◌+◌, arith}
-use Rattle.obj2d.specs.rows.Words.{row_pixel}
+use Rattle.obj2d.specs.ObjectLaws.{lanes_pixel}
 use Rattle.obj2d.proofs.StripLemmas.{laid_more, placed_span}
 use Rattle.obj2d.proofs.layers.lay_shown.Goals as goal
 
@@ -11,5 +11,5 @@ loop-i-preserved c =
     c.left_edge.ensures.value c.on_screen-span.ensures.first c.on_screen-span.ensures.start c.on_screen-span.ensures.count (omega arith) in
     rw e
     (laid_more c.args.object.now c.args.pixels.now k (c.on_screen-span.result.start + c.loop-i.i) c.priority-priority.result c.mode-mode.result
-    (row_pixel c.args.into.now) (row_pixel c.loop-i.into) (row_pixel c.put_shown.new.into)
+    (lanes_pixel c.args.into.now) (lanes_pixel c.loop-i.into) (lanes_pixel c.put_shown.new.into)
     (let b = c.on_screen-span.ensures.in_box c.loop-i.i (omega arith) in omega (arith, b)) place c.priority-priority.ensures.value c.mode-mode.ensures c.loop-i.invariant (λ h. c.put_shown.ensures.here) c.put_shown.ensures.others)

@@ -1,7 +1,7 @@
 use Rattle.std.proofs.Common.{◌+◌}
 use Rattle.obj2d.specs.rows.Strips.{IsLaid}
-use Rattle.obj2d.specs.rows.Words.{row_pixel}
+use Rattle.obj2d.specs.ObjectLaws.{lanes_pixel}
 use Rattle.obj2d.proofs.layers.lay_window.Given as goal
 
 abbrev pub invariant-loop-i : goal.invariant-loop-i
-invariant-loop-i l = IsLaid l.object l.pixels (l.span.first + l.i) (row_pixel l.fn.into) (row_pixel l.into)
+invariant-loop-i l = IsLaid l.object l.pixels (l.span.first + l.i) (lanes_pixel l.fn.into) (lanes_pixel l.into)

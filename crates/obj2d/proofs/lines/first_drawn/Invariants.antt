@@ -1,5 +1,12 @@
+use Rattle.std.proofs.Common.{◌-◌, ◌≤◌}
 use Rattle.obj2d.specs.rows.Strips.{AreNotDrawn}
 use Rattle.obj2d.proofs.lines.first_drawn.Given as goal
 
-abbrev pub invariant-loop-number : goal.invariant-loop-number
-invariant-loop-number l = AreNotDrawn l.oam l.control l.line l.number
+abbrev pub invariant-numbers : goal.invariant-numbers
+invariant-numbers l = record {
+  before : AreNotDrawn l.oam l.control l.line l.number;
+  small : l.number ≤ 128;
+}
+
+abbrev pub decreases-numbers : goal.decreases-numbers
+decreases-numbers l = 128 - l.number

@@ -1,13 +1,15 @@
-use Rattle.std.proofs.Common.{sym, ◌∙◌}
-use Rattle.obj2d.proofs.StripLemmas.{box_affine, box_flat}
+use Rattle.std.proofs.Common.{ℕ, ◌*◌, ◌∙◌, ◌/◌, ◌%◌, ◌^◌, ap, sym}
+use Rattle.obj2d.proofs.StripLemmas.{coloured_16, coloured_256, off_by}
 use Rattle.obj2d.proofs.strips.strip.Goals as goal
 
-pub returns-then-is_affine : goal.returns-then-is_affine
-returns-then-is_affine c =
-    box_affine c.args.vram.now c.args.palette.now c.args.oam.now c.args.display.now c.args.object.now c.args.y c.affine_strip.new.into
-    (sym c.is_affine.ensures ∙ c.if-is_affine.true) c.affine_strip.ensures
+pub tabled_strip-requires-clause-table : goal.tabled_strip-requires-clause-table
+tabled_strip-requires-clause-table c =
+    let a = c.args in
+    coloured_16 a.vram.now a.palette.now a.display.now a.object.now a.tables.now.narrow (16 * c.palette_number.result)
+    (sym c.object_has_256.ensures ∙ c.if-not-object_has_256.true) (ap (λ (n : ℕ). 16 * n) c.palette_number.ensures.value) c.requires.narrow
 
-pub returns-else-is_affine : goal.returns-else-is_affine
-returns-else-is_affine c =
-    box_flat c.args.vram.now c.args.palette.now c.args.oam.now c.args.display.now c.args.object.now c.args.y c.flat_strip.new.into
-    (sym c.is_affine.ensures ∙ c.if-is_affine.false) c.flat_strip.ensures
+pub tabled_strip-requires-else-display-eq1-clause-table : goal.tabled_strip-requires-else-display-eq1-clause-table
+tabled_strip-requires-else-display-eq1-clause-table c =
+    let a = c.args in
+    coloured_256 a.vram.now a.palette.now a.display.now a.object.now a.tables.now.wide
+    (sym c.object_has_256.ensures ∙ c.if-not-object_has_256.false) (off_by (a.display.now.control / 2 ^ 31 % 2) c.if-display-eq1.false) c.requires.wide

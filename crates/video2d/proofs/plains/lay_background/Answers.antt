@@ -1,6 +1,4 @@
-use Rattle.std.proofs.Common.{◌≡◌, false, sym, ◌∙◌, get_or}
-use Rattle.video2d.specs.Backgrounds.{is_background_on}
-use Rattle.video2d.specs.rows.Plain.{background_seen}
+use Rattle.video2d.proofs.Words.{◌≡◌, false, sym, ◌∙◌, get_or, is_background_on, background_seen}
 use Rattle.video2d.proofs.PlainLemmas.{off_clear, over_clear}
 use Rattle.video2d.proofs.plains.lay_background.Goals as goal
 

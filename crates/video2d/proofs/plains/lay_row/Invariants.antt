@@ -1,5 +1,4 @@
-use Rattle.std.proofs.Common.{ℕ, ◌≡◌, ◌<◌, ◌≤◌, get_or}
-use Rattle.video2d.specs.rows.Plain.{laid_over}
+use Rattle.video2d.proofs.Words.{ℕ, ◌≡◌, ◌<◌, ◌≤◌, get_or, laid_over}
 use Rattle.video2d.proofs.plains.lay_row.Given as goal
 
 abbrev pub invariant-loop-x : goal.invariant-loop-x

@@ -1,6 +1,4 @@
-use Rattle.std.proofs.Common.{◌≡◌, ◌-◌, map}
-use Rattle.std.specs.List.{range_with_len}
-use Rattle.video2d.specs.Stops.{first_need, needs_of_object, needs_of_objects}
+use Rattle.video2d.proofs.Words.{◌≡◌, ◌-◌, map, range_with_len, first_need, needs_of_object, needs_of_objects}
 use Rattle.video2d.proofs.stops.needs_of_objects.Given as goal
 
 abbrev pub invariant-loop-n : goal.invariant-loop-n

@@ -1,6 +1,5 @@
-use Rattle.std.proofs.Common.{ap, ◌∙◌, arith}
-use Rattle.vram_banks.specs.Cells.{vram_byte}
+use Rattle.vram_banks.proofs.Words.{ap, ◌∙◌, arith, vram_byte}
 use Rattle.vram_banks.proofs.colours.byte.Goals as goal
 
 pub returns : goal.returns
-returns c = c.read.ensures.value ∙ ap (vram_byte c.args.vram.now c.args.space) (omega arith)
+returns c = c.read_in_line.ensures.value ∙ ap (vram_byte c.args.vram.now c.args.space) (omega arith)

@@ -1,5 +1,4 @@
-use Rattle.std.proofs.Common.{ℕ, ◌≡◌, ◌<◌, get_or}
-use Rattle.vram_banks.specs.Tiles.{flipped}
+use Rattle.vram_banks.proofs.Words.{ℕ, ◌≡◌, ◌<◌, get_or, flipped}
 use Rattle.vram_banks.proofs.colours.paint_by_table.Given as goal
 
 abbrev pub invariant-loop-i : goal.invariant-loop-i

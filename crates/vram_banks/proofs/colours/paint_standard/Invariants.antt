@@ -1,6 +1,4 @@
-use Rattle.std.proofs.Common.{ℕ, ◌≡◌, ◌<◌, ◌+◌, get_or}
-use Rattle.vram_banks.specs.Colours.{indexed_pixel, palette_colour}
-use Rattle.vram_banks.specs.Tiles.{flipped}
+use Rattle.vram_banks.proofs.Words.{ℕ, ◌≡◌, ◌<◌, ◌+◌, get_or, indexed_pixel, palette_colour, flipped}
 use Rattle.vram_banks.proofs.colours.paint_standard.Given as goal
 
 abbrev pub invariant-loop-i : goal.invariant-loop-i

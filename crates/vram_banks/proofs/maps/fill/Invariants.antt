@@ -1,5 +1,4 @@
-use Rattle.std.proofs.Common.{◌≡◌, length}
-use Rattle.vram_banks.specs.paging.Pages.{ArePages}
+use Rattle.vram_banks.proofs.Words.{◌≡◌, length, ArePages}
 use Rattle.vram_banks.proofs.maps.fill.Given as goal
 
 abbrev pub invariant-loop-k : goal.invariant-loop-k

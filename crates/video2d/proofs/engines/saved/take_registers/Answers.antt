@@ -1,15 +1,15 @@
-use Rattle.std.proofs.Common.{sym, ◌∙◌, refl, arith}
-use Rattle.std.proofs.lemmas.Result.{err_from_is_err_and}
-use Rattle.ds_base.specs.Numbers.{zeroes}
-use Rattle.ds_state.specs.Reading.{read_format}
+use Rattle.video2d.proofs.Words.{ℕ, List, sym, ◌∙◌, ap, arith, err_from_is_err_and, zeroes, Format, read_format, ports_format}
 use Rattle.video2d.proofs.SavedLoops.{take_fails, take_on, take_past}
-use Rattle.video2d.specs.Saved.{ports_format}
+use Rattle.video2d.proofs.SavedWalks.{walked}
 use Rattle.video2d.proofs.engines.saved.take_registers.Goals as goal
 use Rattle.video2d.proofs.engines.saved.take_registers.Goals.{in-None, in-Some+in_ok-value-in-Some}
 
 pub loop-init : goal.loop-init
-unfolding ports_format zeroes
-loop-init c = record { reads = refl; small = omega arith }
+unfolding zeroes
+loop-init c = record {
+  reads = sym (ap (λ (f : Format (List ℕ) (List ℕ)). read_format f c.args.at.0 c.args.from.now) (walked c.args.which));
+  small = omega arith;
+}
 
 pub returns-in_err-value-in-Some : goal.returns-in_err-value-in-Some
 returns-in_err-value-in-Some c =

@@ -1,6 +1,5 @@
-use Rattle.std.proofs.Common.{◌≡◌, ◌≤◌, ◌-◌, ◌*◌}
-use Rattle.ds_state.specs.Reading.{read_format}
-use Rattle.video2d.specs.Saved.{ports_format, registers_from}
+use Rattle.video2d.proofs.Words.{◌≡◌, ◌≤◌, ◌-◌, ◌*◌, read_format, ports_format}
+use Rattle.video2d.proofs.SavedWalks.{registers_from}
 use Rattle.video2d.proofs.engines.saved.take_registers.Given as goal
 
 abbrev pub invariant-loop : goal.invariant-loop

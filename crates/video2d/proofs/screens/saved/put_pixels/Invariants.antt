@@ -1,6 +1,5 @@
-use Rattle.std.proofs.Common.{◌≡◌, drop}
-use Rattle.ds_state.specs.Formats.{bytes_written, written_each}
-use Rattle.video2d.specs.Saved.{pixel_format}
+use Rattle.video2d.proofs.Words.{◌≡◌, drop, bytes_written, pixel_format}
+use Rattle.ds_state.specs.Formats.{written_each}
 use Rattle.video2d.proofs.screens.saved.put_pixels.Given as goal
 
 abbrev pub invariant-loop-pixel : goal.invariant-loop-pixel

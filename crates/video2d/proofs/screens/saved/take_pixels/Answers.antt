@@ -1,9 +1,5 @@
-use Rattle.std.proofs.Common.{refl}
-use Rattle.std.proofs.lemmas.List.{length-append}
-use Rattle.std.proofs.lemmas.Result.{err_from_is_err_and}
+use Rattle.video2d.proofs.Words.{refl, length-append, err_from_is_err_and, read_format, read_list, pixel_format}
 use Rattle.ds_state.proofs.Loop.{ends, fails_in, goes_on}
-use Rattle.ds_state.specs.Reading.{read_format, read_list}
-use Rattle.video2d.specs.Saved.{pixel_format}
 use Rattle.video2d.proofs.screens.saved.take_pixels.Goals as goal
 
 pub returns-in_err-pixel-clause-reads : goal.returns-in_err-pixel-clause-reads

@@ -1,7 +1,5 @@
-use Rattle.std.proofs.Common.{◌≡◌, ◌-◌, length}
+use Rattle.video2d.proofs.Words.{◌≡◌, ◌-◌, length, read_format, read_list, pixel_format}
 use Rattle.ds_state.specs.Loops.{with_front}
-use Rattle.ds_state.specs.Reading.{read_format, read_list}
-use Rattle.video2d.specs.Saved.{pixel_format}
 use Rattle.video2d.proofs.screens.saved.take_pixels.Given as goal
 
 abbrev pub invariant-loop : goal.invariant-loop

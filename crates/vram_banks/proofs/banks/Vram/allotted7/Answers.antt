@@ -1,7 +1,4 @@
-use Rattle.std.proofs.Common.{◌≡◌, ◌+◌, ◌*◌, ◌/◌, ◌%◌, ◌∙◌, ap, subst, get_or}
-use Rattle.ds_base.specs.declared.memories.Space.TheVariants.{Arm7}
-use Rattle.vram_banks.specs.BankMap.{StandsIn}
-use Rattle.vram_banks.specs.Cells.{Banks, allotted_bit}
+use Rattle.vram_banks.proofs.Words.{◌≡◌, ◌+◌, ◌*◌, ◌/◌, ◌%◌, ◌∙◌, ap, subst, get_or, Arm7, StandsIn, Banks, allotted_bit}
 use Rattle.vram_banks.proofs.MapLaws.{low_bit, high_bit}
 use Rattle.vram_banks.proofs.banks.Vram.allotted7.Goals as goal
 

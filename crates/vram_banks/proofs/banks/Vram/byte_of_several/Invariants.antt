@@ -1,6 +1,4 @@
-use Rattle.std.proofs.Common.{◌≡◌}
-use Rattle.vram_banks.specs.Cells.{or_below, byte_or_0}
-use Rattle.vram_banks.specs.paging.Flat.{cell_of}
+use Rattle.vram_banks.proofs.Words.{◌≡◌, or_below, byte_or_0, cell_of}
 use Rattle.vram_banks.proofs.banks.Vram.byte_of_several.Given as goal
 
 abbrev pub invariant-loop-bank : goal.invariant-loop-bank

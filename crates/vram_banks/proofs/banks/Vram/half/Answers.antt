@@ -1,8 +1,4 @@
-use Rattle.std.proofs.Common.{◌≡◌, ◌∙◌, sym, subst, arith}
-use Rattle.ds_base.specs.declared.memories.Width.TheVariants.{Half}
-use Rattle.vram_banks.specs.paging.Flat.{or_at}
-use Rattle.vram_banks.specs.Cells.{Banks}
-use Rattle.ds_base.specs.Numbers.{value_by}
+use Rattle.vram_banks.proofs.Words.{◌≡◌, ◌∙◌, sym, subst, arith, Half, or_at, Banks, value_by}
 use Rattle.vram_banks.proofs.CellLemmas.{value_of_empty, value_of_one}
 use Rattle.vram_banks.proofs.banks.Vram.half.Goals as goal
 

@@ -1,7 +1,5 @@
-use Rattle.std.proofs.Common.{ℕ, List, ◌≡◌, ◌<◌, ◌+◌, ◌∙◌, ap, sym, subst, length, get_or, arith}
+use Rattle.vram_banks.proofs.Words.{ℕ, List, ◌≡◌, ◌<◌, ◌+◌, ◌∙◌, ap, sym, subst, length, get_or, arith, or_at, Banks}
 use Rattle.std.proofs.lemmas.List.{get_or-replicate}
-use Rattle.vram_banks.specs.paging.Flat.{or_at}
-use Rattle.vram_banks.specs.Cells.{Banks}
 use Rattle.vram_banks.proofs.CellLemmas.{part_of_empty, part_of_one, index_of_range}
 use Rattle.vram_banks.proofs.banks.Vram.part.Goals as goal
 

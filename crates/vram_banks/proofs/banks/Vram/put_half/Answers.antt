@@ -1,8 +1,4 @@
-use Rattle.std.proofs.Common.{◌≡◌, ◌∙◌, ap, sym, subst, arith}
-use Rattle.ds_base.specs.declared.memories.Width.TheVariants.{Half}
-use Rattle.vram_banks.specs.paging.Flat.{put_in_cells}
-use Rattle.vram_banks.specs.Cells.{Banks}
-use Rattle.ds_base.specs.Numbers.{put_by}
+use Rattle.vram_banks.proofs.Words.{◌≡◌, ◌∙◌, ap, sym, subst, arith, Half, put_in_cells, Banks, put_by}
 use Rattle.vram_banks.proofs.CellLemmas.{with_bytes, put_to_empty, put_to_one}
 use Rattle.vram_banks.proofs.banks.Vram.put_half.Goals as goal
 

@@ -1,6 +1,4 @@
-use Rattle.std.proofs.Common.{◌≡◌}
-use Rattle.vram_banks.specs.Cells.{put_below}
-use Rattle.vram_banks.specs.paging.Flat.{cell_of}
+use Rattle.vram_banks.proofs.Words.{◌≡◌, put_below, cell_of}
 use Rattle.vram_banks.proofs.banks.Vram.put_several.Given as goal
 
 abbrev pub invariant-loop-bank : goal.invariant-loop-bank

@@ -1,5 +1,4 @@
-use Rattle.std.proofs.Common.{ℕ, ◌+◌, ◌∙◌, sym, subst, arith}
-use Rattle.vram_banks.specs.Cells.{Banks, IsOr, IsCellAt}
+use Rattle.vram_banks.proofs.Words.{ℕ, ◌+◌, ◌∙◌, sym, subst, arith, Banks, IsOr, IsCellAt}
 use Rattle.vram_banks.proofs.SetLaws.{byte_flat, byte_is_or}
 use Rattle.vram_banks.proofs.banks.Vram.row.Goals as goal
 

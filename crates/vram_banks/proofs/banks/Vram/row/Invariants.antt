@@ -1,6 +1,4 @@
-use Rattle.std.proofs.Common.{ℕ, ◌≡◌, ◌<◌, ◌≤◌, ◌+◌, ◌-◌, ◌%◌, get_or, length}
-use Rattle.ds_base.specs.Memories.{space_size}
-use Rattle.vram_banks.specs.paging.Flat.{origin_of, or_at}
+use Rattle.vram_banks.proofs.Words.{ℕ, ◌≡◌, ◌<◌, ◌≤◌, ◌+◌, ◌-◌, ◌%◌, get_or, length, space_size, origin_of, or_at}
 use Rattle.vram_banks.proofs.banks.Vram.row.Given as goal
 
 abbrev pub invariant-loop-done : goal.invariant-loop-done

@@ -1,7 +1,4 @@
-use Rattle.std.proofs.Common.{ℕ, ◌≡◌, ◌∙◌, ap, sym, subst, length}
-use Rattle.ds_base.specs.Numbers.{aligned_down, put_by}
-use Rattle.vram_banks.specs.paging.Flat.{put_in_cells}
-use Rattle.vram_banks.specs.Cells.{Banks, vram_written, IsWritten}
+use Rattle.vram_banks.proofs.Words.{ℕ, ◌≡◌, ◌∙◌, ap, sym, subst, length, aligned_down, put_by, put_in_cells, Banks, vram_written, IsWritten}
 use Rattle.vram_banks.proofs.SetLaws.{written_flat, is_written}
 use Rattle.vram_banks.proofs.banks.Vram.write.Goals as goal
 

@@ -1,6 +1,4 @@
-use Rattle.std.proofs.Common.{ℕ, List, ◌%◌, subst}
-use Rattle.vram_banks.specs.declared.maps.Page.TheVariants.{Empty, One}
-use Rattle.vram_banks.specs.paging.Pages.{IsFound}
+use Rattle.vram_banks.proofs.Words.{ℕ, List, ◌%◌, subst, Empty, One, IsFound}
 use Rattle.vram_banks.proofs.PageLemmas.{found_at, moved}
 use Rattle.vram_banks.proofs.maps.BankMap.found.Goals as goal
 

@@ -1,5 +1,4 @@
-use Rattle.std.proofs.Common.{ℕ, ◌≡◌, sym, subst, rules, arith, length, get_or, set}
-use Rattle.vram_banks.specs.Cells.{IsControl}
+use Rattle.vram_banks.proofs.Words.{ℕ, ◌≡◌, sym, subst, rules, arith, length, get_or, set, IsControl}
 use Rattle.vram_banks.proofs.PageLemmas.{controls_set}
 use Rattle.vram_banks.proofs.maps.BankMap.set_control.Goals as goal
 

@@ -1,0 +1,7 @@
+use Rattle.std.proofs.Common.{ℕ, ◌≡◌, ◌<◌}
+use Rattle.obj2d.specs.ObjectLayer.{blank_pixel}
+use Rattle.obj2d.specs.ObjectLaws.{lanes_pixel}
+use Rattle.obj2d.proofs.lanes.clear.Given as goal
+
+abbrev pub invariant-loop-x : goal.invariant-loop-x
+invariant-loop-x l = (x : ℕ) → x < l.x → lanes_pixel l.into x ≡ blank_pixel

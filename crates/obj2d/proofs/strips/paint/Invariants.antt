@@ -1,5 +1,0 @@
-use Rattle.obj2d.specs.rows.Strips.{AreObjectPixels}
-use Rattle.obj2d.proofs.strips.paint.Given as goal
-
-abbrev pub invariant-loop-k : goal.invariant-loop-k
-invariant-loop-k l = AreObjectPixels l.vram l.palette l.display l.object l.indices l.into l.k

@@ -1,0 +1,5 @@
+use Rattle.video2d.proofs.Words.{ℕ, ◌≡◌, ◌<◌, front_at, started}
+use Rattle.video2d.proofs.fronts.start_fronts.Given as goal
+
+abbrev pub invariant-loop-x : goal.invariant-loop-x
+invariant-loop-x l = (x : ℕ) → x < l.x → front_at l.into x ≡ started l.backdrop l.laid

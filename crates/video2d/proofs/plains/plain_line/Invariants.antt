@@ -1,5 +1,0 @@
-use Rattle.std.proofs.Common.{ℕ, ◌≡◌, ◌<◌, get_or}
-use Rattle.video2d.proofs.plains.plain_line.Given as goal
-
-abbrev pub invariant-loop-x : goal.invariant-loop-x
-invariant-loop-x l = (x : ℕ) → x < l.x → get_or l.into x 0 ≡ l.colour

@@ -1,0 +1,8 @@
+use Rattle.std.proofs.Common.{ℕ, ◌≡◌, ◌<◌, ◌≤◌, ◌==◌, if◌then◌else◌, get_or}
+use Rattle.video2d.proofs.rows.fill_where.Given as goal
+
+abbrev pub invariant-loop-x : goal.invariant-loop-x
+invariant-loop-x l = record {
+  done : (x : ℕ) → x < l.x → get_or l.into x 0 ≡ (if get_or l.marks x 0 == l.mark then l.number else get_or l.fn.into x 0);
+  left : (x : ℕ) → l.x ≤ x → get_or l.into x 0 ≡ get_or l.fn.into x 0;
+}

@@ -1,21 +1,12 @@
 -- Addresses, register lists and status fields are read as they are written.
-use Rattle.std.proofs.Common.{ℕ, zero, suc, ◌≡◌, ◌<◌, ◌≤◌, ◌+◌, ◌*◌, ◌/◌, ◌%◌, ◌^◌, Bool, true, false, List, [], ◌∷◌, ◌++◌, ◌⊎◌, refl, sym, ap, ◌∙◌, arith, inl, inr, append_assoc}
-use Rattle.std.proofs.lemmas.List.{append-nil}
+use Rattle.asm_text.proofs.Words.{ℕ, zero, suc, ◌≡◌, ◌<◌, ◌≤◌, ◌+◌, ◌*◌, ◌/◌, ◌%◌, ◌^◌, Bool, true, false, List, [], ◌∷◌, ◌++◌, ◌⊎◌, refl, sym, ap}
+use Rattle.asm_text.proofs.Words.{◌∙◌, arith, inl, inr, append_assoc, append-nil, slice_index, codes, ◌&&◌, ◌==◌, not, HasShortOffset, Shift, Lsl}
+use Rattle.asm_text.proofs.Words.{FieldMask, Offset, Number, Register, ShortOffset, ShortNumber, ShortRegister, field_letters, shifted, offset}
+use Rattle.asm_text.proofs.Words.{short_offset, at_offset, address, register_at, address_at, members_from, registers_at, register_name, hex, preceded}
+use Rattle.asm_text.proofs.Words.{joined, register_names, members, where_set, Address}
 use Rattle.std.proofs.lemmas.Nat.{mod-pow-add}
-use Rattle.std.specs.Prelude.{slice_index, codes, ◌&&◌, ◌==◌, not}
-use Rattle.arm_words.specs.Fields.{HasOffset, HasShortOffset}
-use Rattle.arm_words.specs.declared.parts.Shift.{Shift}
-use Rattle.arm_words.specs.declared.parts.Shift.TheVariants.{Lsl}
-use Rattle.arm_words.specs.declared.parts.FieldMask.{FieldMask}
-use Rattle.arm_words.specs.declared.parts.Offset.{Offset}
-use Rattle.arm_words.specs.declared.parts.Offset.TheVariants.{Number, Register}
-use Rattle.arm_words.specs.declared.parts.ShortOffset.{ShortOffset}
-use Rattle.arm_words.specs.declared.parts.ShortOffset.TheVariants.{ShortNumber, ShortRegister}
-use Rattle.asm_text.specs.Names.{field_letters}
-use Rattle.asm_text.specs.Operands.{shifted, offset, short_offset, at_offset, address}
-use Rattle.asm_text.specs.Reader.Parts.{register_at, unsigned_at, offset_at, address_at, member_at, members_from, registers_at, fields_at}
-use Rattle.asm_text.specs.Text.{register_name, hex, preceded, joined, register_names, members, where_set}
-use Rattle.asm_text.specs.declared.reading.parts.Address.{Address}
+use Rattle.arm_words.specs.Fields.{HasOffset}
+use Rattle.asm_text.specs.Reader.Parts.{unsigned_at, offset_at, member_at, fields_at}
 use Rattle.asm_text.proofs.Again.{EndsDecimal, EndsShift, hex_again, register_again, shifted_again}
 
 -- an offset that is read

@@ -1,19 +1,14 @@
 -- Each part of a statement is read as it was written, whatever follows that can't go on it.
-use Rattle.std.proofs.Common.{ℕ, zero, suc, ◌≡◌, ◌≢◌, ◌<◌, ◌≤◌, ◌+◌, ◌-◌, ◌*◌, ◌/◌, ◌%◌, ◌^◌, true, false, List, [], ◌∷◌, ◌++◌, ◌⊎◌, refl, sym, ap, ◌∙◌, arith, inl, inr, append_assoc}
-use Rattle.std.proofs.lemmas.List.{append-nil}
-use Rattle.std.specs.Prelude.{nat_lt, nat_le, slice_index, codes, ◌==◌}
-use Rattle.arm_words.specs.Canonical.{immediate, least_rotation, least_operand, none_below, turned_back}
+use Rattle.asm_text.proofs.Words.{ℕ, zero, suc, ◌≡◌, ◌≢◌, ◌<◌, ◌≤◌, ◌+◌, ◌-◌, ◌*◌, ◌/◌, ◌%◌, ◌^◌, true, false, List, [], ◌∷◌, ◌++◌, ◌⊎◌, refl, sym}
+use Rattle.asm_text.proofs.Words.{ap, ◌∙◌, arith, inl, inr, append_assoc, append-nil, nat_lt, nat_le, slice_index, codes, ◌==◌, immediate}
+use Rattle.asm_text.proofs.Words.{turned_back, Shift, Lsl, Operand, Immediate, Shifted, ShiftedByRegister, shift_name, shifted, operand, numeral}
+use Rattle.asm_text.proofs.Words.{hex_at, marked_at, register_at, one_at, rotation_from, rotation_of, operand_at, hex_digit, hex_digits, both}
+use Rattle.asm_text.proofs.Words.{register_name, decimal, hex, number, trimmed, joined}
+use Rattle.arm_words.specs.Canonical.{least_rotation, least_operand, none_below}
 use Rattle.arm_words.specs.Fields.{HasOperand}
-use Rattle.arm_words.specs.declared.parts.Shift.{Shift}
-use Rattle.arm_words.specs.declared.parts.Shift.TheVariants.{Lsl, Lsr, Asr, Ror}
-use Rattle.arm_words.specs.declared.parts.Operand.{Operand}
-use Rattle.arm_words.specs.declared.parts.Operand.TheVariants.{Immediate, Shifted, ShiftedByRegister}
-use Rattle.asm_text.specs.Names.{shift_name}
-use Rattle.asm_text.specs.Operands.{shifted, operand}
-use Rattle.asm_text.specs.Reader.Parts.{numeral, hex_at, marked_at, decimal_at, register_at, one_at, two_at, three_at, four_at, is_decimal, is_digit, digit_value, shift_at, by_shift, shifted_at, rotation_from, rotation_of, operand_at}
-use Rattle.ds_base.specs.Digits.{hex_digit, hex_digits}
-use Rattle.ds_base.proofs.Choices.{both, le_of, low_or_high, same_or_not}
-use Rattle.asm_text.specs.Text.{register_name, decimal, hex, number, trimmed, joined}
+use Rattle.arm_words.specs.declared.parts.Shift.TheVariants.{Lsr, Asr, Ror}
+use Rattle.asm_text.specs.Reader.Parts.{decimal_at, two_at, three_at, four_at, is_decimal, is_digit, digit_value, shift_at, by_shift, shifted_at}
+use Rattle.ds_base.proofs.Choices.{le_of, low_or_high, same_or_not}
 use Rattle.asm_text.proofs.Rotations.{back_again, below_word}
 
 -- what can't go on a number

@@ -1,11 +1,7 @@
 -- What is read of the statement of a word is its instruction.
-use Rattle.std.proofs.Common.{ℕ, ◌≡◌, ◌<◌, ◌^◌, true}
-use Rattle.arm_words.specs.Canonical.{canonical_form}
-use Rattle.arm_words.specs.Fields.{HasFields}
-use Rattle.arm_words.specs.Spellings.{spelled}
-use Rattle.arm_words.specs.declared.instructions.Instr.{Instr}
-use Rattle.arm_words.specs.declared.instructions.Instr.TheVariants.{Bx, BlxRegister, Bkpt, Clz, Saturating, Smla, Smlaw, Smulw, Smlal, Smul, Mul, Mla, LongMultiply, Swap, HalfTransfer, Mrs, Msr, MsrImmediate, Compare, Move, Data, DoubleTransfer, Transfer, Multiple, Branch, Coprocessor, Swi, BlxTarget, Pld}
-use Rattle.arm_words.specs.declared.spellings.Spelling.TheVariants.{Word}
+use Rattle.asm_text.proofs.Words.{ℕ, ◌≡◌, ◌<◌, ◌^◌, true, canonical_form, HasFields, spelled, Instr, Bx, BlxRegister, Bkpt, Clz, Saturating, Smla}
+use Rattle.asm_text.proofs.Words.{Smlaw, Smulw, Smlal, Smul, Mul, Mla, LongMultiply, Swap, HalfTransfer, Mrs, Msr, MsrImmediate, Compare, Move, Data}
+use Rattle.asm_text.proofs.Words.{DoubleTransfer, Transfer, Multiple, Branch, Coprocessor, Swi, BlxTarget, Pld, Word}
 use Rattle.asm_text.proofs.ArmRows.{IsRead, bx_read, blx_register_read, bkpt_read, clz_read, saturating_read, smla_read, smlaw_read, smulw_read, smlal_read, smul_read, mul_read, mla_read, long_multiply_read, branch_read, swi_read, blx_target_read}
 use Rattle.asm_text.proofs.ArmRowsData.{mrs_read, msr_read, msr_immediate_read, compare_read, move_read, data_read, coprocessor_read}
 use Rattle.asm_text.proofs.ArmRowsTransfers.{swap_read, half_transfer_read, double_transfer_read, transfer_read, multiple_read, pld_read}

@@ -1,20 +1,9 @@
 -- What is read of a statement is its instruction: the rows of ARM's with registers, numbers and targets.
-use Rattle.std.proofs.Common.{ℕ, ◌≡◌, ◌<◌, ◌/◌, ◌%◌, ◌^◌, Bool, true, false, List, [], ◌∷◌, ◌++◌, refl, ap, ◌∙◌, arith, Some}
-use Rattle.std.specs.Prelude.{codes, ◌==◌}
-use Rattle.arm_words.specs.Fields.{HasFields}
-use Rattle.arm_words.specs.declared.parts.Condition.{Condition}
-use Rattle.arm_words.specs.declared.parts.Condition.TheVariants.{Al}
-use Rattle.arm_words.specs.declared.instructions.Instr.{Instr}
-use Rattle.arm_words.specs.declared.instructions.Instr.TheVariants.{Bx, BlxRegister, Bkpt, Clz, Saturating, Smla, Smlaw, Smulw, Smlal, Smul, Mul, Mla, LongMultiply, Branch, Swi, BlxTarget}
-use Rattle.asm_text.specs.Addresses.{arm_target, half_target}
-use Rattle.asm_text.specs.Reader.ArmRows.{arm_row, blx_at, branch_at, distance_read}
-use Rattle.asm_text.specs.Names.{half_letter, long_name, saturating_name}
-use Rattle.asm_text.specs.Reader.Names.{read}
-use Rattle.asm_text.specs.Reader.Parts.{hex_at}
-use Rattle.asm_text.specs.Statements.{on, statement}
-use Rattle.asm_text.specs.Text.{hex, joined, register_name, where_set}
-use Rattle.asm_text.specs.declared.reading.names.Stem.TheVariants.{Row}
-use Rattle.asm_text.specs.declared.reading.arm_stems.TheConstants.{ARM_STEMS}
+use Rattle.asm_text.proofs.Words.{ℕ, ◌≡◌, ◌<◌, ◌/◌, ◌%◌, ◌^◌, Bool, true, false, List, [], ◌∷◌, ◌++◌, refl, ap, ◌∙◌, arith, Some, codes, ◌==◌}
+use Rattle.asm_text.proofs.Words.{HasFields, Condition, Al, Instr, Bx, BlxRegister, Bkpt, Clz, Saturating, Smla, Smlaw, Smulw, Smlal, Smul, Mul, Mla}
+use Rattle.asm_text.proofs.Words.{LongMultiply, Branch, Swi, BlxTarget, arm_target, half_target, arm_row, half_letter, long_name, saturating_name}
+use Rattle.asm_text.proofs.Words.{read, hex_at, on, statement, hex, joined, register_name, where_set, Row, ARM_STEMS}
+use Rattle.asm_text.specs.Reader.ArmRows.{blx_at, branch_at, distance_read}
 use Rattle.asm_text.proofs.Again.{hex_again, one_again, two_again, three_again, four_again}
 use Rattle.asm_text.proofs.ArmStems
 use Rattle.asm_text.proofs.ArmStems.{IsNamed}

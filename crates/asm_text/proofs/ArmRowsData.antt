@@ -1,23 +1,11 @@
 -- The same: ARM's data processing, status registers and coprocessors.
-use Rattle.std.proofs.Common.{ℕ, ◌≡◌, ◌<◌, ◌%◌, Bool, true, false, List, [], ◌∷◌, ◌++◌, refl, ap, ◌∙◌, arith}
-use Rattle.std.specs.Prelude.{slice_index, drop, codes, ◌==◌, if◌then◌else◌}
-use Rattle.arm_words.specs.Canonical.{canonical_form, immediate}
-use Rattle.arm_words.specs.Fields.{HasFields}
-use Rattle.arm_words.specs.declared.parts.Condition.{Condition}
-use Rattle.arm_words.specs.declared.parts.Condition.TheVariants.{Al}
-use Rattle.arm_words.specs.declared.parts.FieldMask.{FieldMask}
-use Rattle.arm_words.specs.declared.parts.Operand.{Operand}
-use Rattle.arm_words.specs.declared.parts.Operand.TheVariants.{Immediate}
-use Rattle.arm_words.specs.declared.operations.DataOp.{DataOp}
-use Rattle.arm_words.specs.declared.operations.CompareOp.{CompareOp}
-use Rattle.arm_words.specs.declared.operations.MoveOp.{MoveOp}
-use Rattle.arm_words.specs.declared.instructions.Instr.{Instr}
-use Rattle.arm_words.specs.declared.instructions.Instr.TheVariants.{Compare, Coprocessor, Data, Move, Mrs, Msr, MsrImmediate}
-use Rattle.asm_text.specs.Reader.ArmRows.{arm_row, compare_at, coprocessor_at, data_at, move_at, mrs_at, msr_at}
-use Rattle.asm_text.specs.Names.{compare_name, data_name, field_letters, move_name, status_name}
-use Rattle.asm_text.specs.Operands.{operand}
-use Rattle.asm_text.specs.Reader.Parts.{is_spsr, marked_at, operand_at, register_at, rotation_of}
-use Rattle.asm_text.specs.Text.{decimal, number, register_name, where_set}
+use Rattle.asm_text.proofs.Words.{ℕ, ◌≡◌, ◌<◌, ◌%◌, Bool, true, false, List, [], ◌∷◌, ◌++◌, refl, ap, ◌∙◌, arith, slice_index, drop, codes, ◌==◌}
+use Rattle.asm_text.proofs.Words.{if◌then◌else◌, canonical_form, immediate, HasFields, Condition, Al, FieldMask, Operand, Immediate, DataOp}
+use Rattle.asm_text.proofs.Words.{CompareOp, MoveOp, Instr, Compare, Coprocessor, Data, Move, Mrs, Msr, MsrImmediate, arm_row, compare_name}
+use Rattle.asm_text.proofs.Words.{data_name, field_letters, move_name, status_name, operand, marked_at, operand_at, register_at, rotation_of, decimal}
+use Rattle.asm_text.proofs.Words.{number, register_name, where_set}
+use Rattle.asm_text.specs.Reader.ArmRows.{compare_at, coprocessor_at, data_at, move_at, mrs_at, msr_at}
+use Rattle.asm_text.specs.Reader.Parts.{is_spsr}
 use Rattle.asm_text.proofs.AddressLaws.{fields_again}
 use Rattle.asm_text.proofs.Again.{decimal_again, immediate_again, operand_again, register_again}
 use Rattle.asm_text.proofs.ArmRows.{IsRead, row_read}

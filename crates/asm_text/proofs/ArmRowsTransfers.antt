@@ -1,23 +1,11 @@
 -- The same: ARM's transfers.
-use Rattle.std.proofs.Common.{ℕ, ◌≡◌, ◌<◌, ◌*◌, ◌/◌, ◌%◌, ◌^◌, Bool, true, false, not, ◌&&◌, ◌||◌, List, [], ◌∷◌, ◌++◌, refl, ap, ◌∙◌, arith, append_assoc}
-use Rattle.std.proofs.lemmas.List.{append-nil}
-use Rattle.std.specs.Prelude.{drop, codes, if◌then◌else◌}
-use Rattle.arm_words.specs.Canonical.{canonical_form}
-use Rattle.arm_words.specs.Fields.{HasFields, HasShortOffset}
-use Rattle.arm_words.specs.declared.parts.Condition.{Condition}
-use Rattle.arm_words.specs.declared.parts.Condition.TheVariants.{Al}
-use Rattle.arm_words.specs.declared.parts.Offset.{Offset}
-use Rattle.arm_words.specs.declared.parts.Offset.TheVariants.{Number}
-use Rattle.arm_words.specs.declared.parts.ShortOffset.{ShortOffset}
-use Rattle.arm_words.specs.declared.parts.ShortOffset.TheVariants.{ShortNumber, ShortRegister}
-use Rattle.arm_words.specs.declared.operations.HalfOp.{HalfOp}
-use Rattle.arm_words.specs.declared.instructions.Instr.TheVariants.{DoubleTransfer, HalfTransfer, Multiple, Pld, Swap, Transfer}
-use Rattle.asm_text.specs.Reader.ArmRows.{arm_row, double_transfer_at, half_transfer_at, multiple_at, pld_at, short_of, swap_at, transfer_at}
-use Rattle.asm_text.specs.Names.{block_mode, half_name, load_name}
-use Rattle.asm_text.specs.Operands.{address, at_offset, offset, short_offset}
-use Rattle.asm_text.specs.Reader.Parts.{address_at, register_at}
-use Rattle.asm_text.specs.Text.{members, register_name, register_list, where_set}
-use Rattle.asm_text.specs.declared.reading.parts.Address.{Address}
+use Rattle.asm_text.proofs.Words.{ℕ, ◌≡◌, ◌<◌, ◌*◌, ◌/◌, ◌%◌, ◌^◌, Bool, true, false, List, [], ◌∷◌, ◌++◌, refl, ap, ◌∙◌, arith, append_assoc}
+use Rattle.asm_text.proofs.Words.{append-nil, drop, codes, if◌then◌else◌, canonical_form, HasFields, HasShortOffset, Condition, Al, Offset, Number}
+use Rattle.asm_text.proofs.Words.{ShortOffset, ShortNumber, ShortRegister, HalfOp, DoubleTransfer, HalfTransfer, Multiple, Pld, Swap, Transfer}
+use Rattle.asm_text.proofs.Words.{arm_row, block_mode, half_name, load_name, address, at_offset, offset, short_offset, address_at, register_at}
+use Rattle.asm_text.proofs.Words.{members, register_name, register_list, where_set, Address}
+use Rattle.std.proofs.Common.{not, ◌&&◌, ◌||◌}
+use Rattle.asm_text.specs.Reader.ArmRows.{double_transfer_at, half_transfer_at, multiple_at, pld_at, short_of, swap_at, transfer_at}
 use Rattle.asm_text.proofs.AddressLaws.{address_again, at_offset_again, lengthened, registers_again, short_address_again}
 use Rattle.asm_text.proofs.Again.{register_again}
 use Rattle.asm_text.proofs.ArmRows.{IsRead, row_read}

@@ -1,25 +1,13 @@
 -- Each of ARM's names is read as the row that it was written for: by computing.
-use Rattle.std.proofs.Common.{ℕ, List, Bool, true, false, ◌++◌, refl}
-use Rattle.std.specs.Prelude.{codes, if◌then◌else◌}
-use Rattle.asm_text.specs.Text.{where_set}
-use Rattle.asm_text.specs.Names.{block_mode, compare_name, data_name, half_letter, half_name, load_name, long_name, move_name, saturating_name}
-use Rattle.asm_text.specs.Reader.Names.{named_stem, IsStem}
-use Rattle.asm_text.specs.declared.reading.names.Stem.TheVariants.{Raw, Row}
-use Rattle.asm_text.specs.declared.reading.arm_stems.TheConstants.{ARM_STEMS}
-use Rattle.arm_words.specs.declared.parts.Condition.TheVariants.{Al}
-use Rattle.arm_words.specs.declared.parts.Operand.TheVariants.{Immediate}
-use Rattle.arm_words.specs.declared.parts.Offset.TheVariants.{Number}
-use Rattle.arm_words.specs.declared.parts.ShortOffset.TheVariants.{ShortNumber}
-use Rattle.arm_words.specs.declared.operations.DataOp.{DataOp}
+use Rattle.asm_text.proofs.Words.{ℕ, List, Bool, true, false, ◌++◌, refl, codes, if◌then◌else◌, where_set, block_mode, compare_name, data_name}
+use Rattle.asm_text.proofs.Words.{half_letter, half_name, load_name, long_name, move_name, saturating_name, named_stem, IsStem, Raw, Row, ARM_STEMS}
+use Rattle.asm_text.proofs.Words.{Al, Immediate, Number, ShortNumber, DataOp, CompareOp, MoveOp, HalfOp, Instr, Bx, BlxRegister, Bkpt, Clz}
+use Rattle.asm_text.proofs.Words.{Saturating, Smla, Smlaw, Smulw, Smlal, Smul, Mul, Mla, LongMultiply, Swap, HalfTransfer, Mrs, Msr, Compare, Move}
+use Rattle.asm_text.proofs.Words.{Data, DoubleTransfer, Transfer, Multiple, Branch, Coprocessor, Swi, Pld}
 use Rattle.arm_words.specs.declared.operations.DataOp.TheVariants as data_ops
-use Rattle.arm_words.specs.declared.operations.CompareOp.{CompareOp}
 use Rattle.arm_words.specs.declared.operations.CompareOp.TheVariants as compare_ops
-use Rattle.arm_words.specs.declared.operations.MoveOp.{MoveOp}
 use Rattle.arm_words.specs.declared.operations.MoveOp.TheVariants as move_ops
-use Rattle.arm_words.specs.declared.operations.HalfOp.{HalfOp}
 use Rattle.arm_words.specs.declared.operations.HalfOp.TheVariants as half_ops
-use Rattle.arm_words.specs.declared.instructions.Instr.{Instr}
-use Rattle.arm_words.specs.declared.instructions.Instr.TheVariants.{Bx, BlxRegister, Bkpt, Clz, Saturating, Smla, Smlaw, Smulw, Smlal, Smul, Mul, Mla, LongMultiply, Swap, HalfTransfer, Mrs, Msr, Compare, Move, Data, DoubleTransfer, Transfer, Multiple, Branch, Coprocessor, Swi, Pld}
 
 -- a name stands for a row, and is no other name with a condition's suffix
 abbrev pub IsNamed : List ℕ → Instr → Type 0

@@ -1,3 +1,4 @@
+mod Words
 pub mod AddressLaws
 pub mod Again
 pub mod ArmRead
@@ -14,3 +15,7 @@ pub mod ThumbRows
 pub mod ThumbRowsAgain
 pub mod ThumbRowsTransfers
 pub mod ThumbStems
+pub mod UnreadArm
+pub mod UnreadBits
+pub mod UnreadRows
+pub mod UnreadThumb

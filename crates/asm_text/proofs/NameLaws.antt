@@ -1,13 +1,10 @@
 -- A name is read as what it was written for, with each condition.
-use Rattle.std.proofs.Common.{ℕ, ◌≡◌, ◌<◌, ◌+◌, ◌*◌, ◌/◌, ◌%◌, ◌^◌, Bool, true, List, [], ◌∷◌, ◌++◌, refl, sym, ap, ◌∙◌, arith, Option, Some, append_assoc}
-use Rattle.std.specs.Prelude.{codes, ◌==◌, not}
-use Rattle.ds_base.proofs.Choices.{both, not_true, lt_of}
-use Rattle.arm_words.specs.declared.parts.Condition.{Condition}
-use Rattle.arm_words.specs.declared.parts.Condition.TheVariants.{Eq, Ne, Cs, Cc, Mi, Pl, Vs, Vc, Hi, Ls, Ge, Lt, Gt, Le, Al}
-use Rattle.asm_text.specs.Names.{suffix}
-use Rattle.asm_text.specs.Reader.Names.{letters, name, lookup, with_suffix, named_stem, Filler, filled, read, no_blank, IsStem}
-use Rattle.asm_text.specs.Statements.{on}
-use Rattle.asm_text.specs.Text.{joined}
+use Rattle.asm_text.proofs.Words.{ℕ, ◌≡◌, ◌<◌, ◌+◌, ◌*◌, ◌/◌, ◌%◌, ◌^◌, Bool, true, List, [], ◌∷◌, ◌++◌, refl, sym, ap, ◌∙◌, arith, Option, Some}
+use Rattle.asm_text.proofs.Words.{append_assoc, codes, ◌==◌, not, both, lt_of, Condition, Al, suffix, name, lookup, named_stem, read, IsStem, on}
+use Rattle.asm_text.proofs.Words.{joined}
+use Rattle.ds_base.proofs.Choices.{not_true}
+use Rattle.arm_words.specs.declared.parts.Condition.TheVariants.{Eq, Ne, Cs, Cc, Mi, Pl, Vs, Vc, Hi, Ls, Ge, Lt, Gt, Le}
+use Rattle.asm_text.specs.Reader.Names.{letters, with_suffix, Filler, filled, no_blank}
 use Rattle.asm_text.specs.declared.reading.names.Stem.{Stem}
 use Rattle.asm_text.specs.declared.reading.names.TheConstants.{CONDITIONS}
 

@@ -1,52 +1,36 @@
 -- Each statement is one line, and with its line feed no shorter than its word.
-use Rattle.std.proofs.Common.{ℕ, zero, suc, ◌≡◌, ◌≢◌, ◌≤◌, ◌+◌, ◌*◌, ◌^◌, Bool, true, false, List, [], ◌∷◌, ◌++◌, length, refl, arith, Option, Some, None, length-append}
-use Rattle.ds_base.specs.Texts.{HasNoFeed}
-use Rattle.std.specs.Prelude.{nat_lt, codes, if◌then◌else◌, ◌==◌, ◌&&◌, not}
-use Rattle.ds_base.specs.declared.processors.Arch.{Arch}
+use Rattle.asm_text.proofs.Words.{ℕ, zero, suc, ◌≡◌, ◌≢◌, ◌≤◌, ◌+◌, ◌*◌, ◌^◌, Bool, true, false, List, [], ◌∷◌, ◌++◌, length, refl, arith, Option}
+use Rattle.asm_text.proofs.Words.{Some, None, HasNoFeed, nat_lt, codes, if◌then◌else◌, ◌==◌, ◌&&◌, not, Arch, canonical_form, immediate, decoded}
+use Rattle.asm_text.proofs.Words.{Condition, Shift, FieldMask, DataOp, CompareOp, MoveOp, HalfOp, ThumbImmediateOp, ThumbDataOp, HighOp}
+use Rattle.asm_text.proofs.Words.{ThumbTransferOp, Operand, Immediate, Shifted, ShiftedByRegister, Offset, Number, Register, ShortOffset, ShortNumber}
+use Rattle.asm_text.proofs.Words.{ShortRegister, ThumbOperand, LowRegister, Small, Instr, Bx, BlxRegister, Bkpt, Clz, Saturating, Smla, Smlaw, Smulw}
+use Rattle.asm_text.proofs.Words.{Smlal, Smul, Mul, Mla, LongMultiply, Swap, HalfTransfer, Mrs, Msr, MsrImmediate, Compare, Move, Data}
+use Rattle.asm_text.proofs.Words.{DoubleTransfer, Transfer, Multiple, Branch, Coprocessor, Swi, BlxTarget, Pld, Never, ThumbAddSub, ThumbShift}
+use Rattle.asm_text.proofs.Words.{ThumbImmediate, ThumbData, ThumbBx, ThumbBlxRegister, ThumbHigh, ThumbLoadLiteral, ThumbRegisterOffset}
+use Rattle.asm_text.proofs.Words.{ThumbImmediateOffset, ThumbHalfOffset, ThumbStackOffset, ThumbAddress, ThumbAdjustStack, ThumbPushPop, ThumbBkpt}
+use Rattle.asm_text.proofs.Words.{ThumbMultiple, ThumbBranchIf, ThumbSwi, ThumbBranch, ThumbBlxSuffix, ThumbBlPrefix, ThumbBlSuffix, Spelling}
+use Rattle.asm_text.proofs.Words.{hex_digits, preceded, joined, where_set, hex, number, decimal, register_name, register_names, members}
+use Rattle.asm_text.proofs.Words.{register_list, suffix, shift_name, data_name, compare_name, move_name, half_name, saturating_name, long_name}
+use Rattle.asm_text.proofs.Words.{half_letter, load_name, block_mode, status_name, field_letters, thumb_data_name, high_name, transfer_name}
+use Rattle.asm_text.proofs.Words.{amount_shown, shifted, operand, offset, short_offset, at_offset, address, arm_target, half_target, thumb_target, on}
+use Rattle.asm_text.proofs.Words.{thumb_amount, statement, Set, unread_of, listed, spelling, raw, stated}
+use Rattle.std.proofs.Common.{length-append}
+use Rattle.std.specs.Prelude.{bit_and}
 use Rattle.ds_base.specs.Bits.{bit}
-use Rattle.arm_words.specs.Canonical.{canonical_form, if_canonical, same_spelling, immediate}
-use Rattle.arm_words.specs.Spellings.{spelled, decoded}
-use Rattle.arm_words.specs.declared.parts.Condition.{Condition}
 use Rattle.arm_words.specs.declared.parts.Condition.TheVariants as conditions
-use Rattle.arm_words.specs.declared.parts.Shift.{Shift}
 use Rattle.arm_words.specs.declared.parts.Shift.TheVariants as shifts
-use Rattle.arm_words.specs.declared.parts.FieldMask.{FieldMask}
-use Rattle.arm_words.specs.declared.operations.DataOp.{DataOp}
 use Rattle.arm_words.specs.declared.operations.DataOp.TheVariants as data_ops
-use Rattle.arm_words.specs.declared.operations.CompareOp.{CompareOp}
 use Rattle.arm_words.specs.declared.operations.CompareOp.TheVariants as compare_ops
-use Rattle.arm_words.specs.declared.operations.MoveOp.{MoveOp}
 use Rattle.arm_words.specs.declared.operations.MoveOp.TheVariants as move_ops
-use Rattle.arm_words.specs.declared.operations.HalfOp.{HalfOp}
 use Rattle.arm_words.specs.declared.operations.HalfOp.TheVariants as half_ops
-use Rattle.arm_words.specs.declared.operations.ThumbImmediateOp.{ThumbImmediateOp}
 use Rattle.arm_words.specs.declared.operations.ThumbImmediateOp.TheVariants as immediate_ops
-use Rattle.arm_words.specs.declared.operations.ThumbDataOp.{ThumbDataOp}
 use Rattle.arm_words.specs.declared.operations.ThumbDataOp.TheVariants as thumb_ops
-use Rattle.arm_words.specs.declared.operations.HighOp.{HighOp}
 use Rattle.arm_words.specs.declared.operations.HighOp.TheVariants as high_ops
-use Rattle.arm_words.specs.declared.operations.ThumbTransferOp.{ThumbTransferOp}
 use Rattle.arm_words.specs.declared.operations.ThumbTransferOp.TheVariants as transfer_ops
-use Rattle.arm_words.specs.declared.parts.Operand.{Operand}
-use Rattle.arm_words.specs.declared.parts.Operand.TheVariants.{Immediate, Shifted, ShiftedByRegister}
-use Rattle.arm_words.specs.declared.parts.Offset.{Offset}
-use Rattle.arm_words.specs.declared.parts.Offset.TheVariants.{Number, Register}
-use Rattle.arm_words.specs.declared.parts.ShortOffset.{ShortOffset}
-use Rattle.arm_words.specs.declared.parts.ShortOffset.TheVariants.{ShortNumber, ShortRegister}
-use Rattle.arm_words.specs.declared.parts.ThumbOperand.{ThumbOperand}
-use Rattle.arm_words.specs.declared.parts.ThumbOperand.TheVariants.{LowRegister, Small}
-use Rattle.arm_words.specs.declared.instructions.Instr.{Instr}
-use Rattle.arm_words.specs.declared.instructions.Instr.TheVariants.{Bx, BlxRegister, Bkpt, Clz, Saturating, Smla, Smlaw, Smulw, Smlal, Smul, Mul, Mla, LongMultiply, Swap, HalfTransfer, Mrs, Msr, MsrImmediate, Compare, Move, Data, DoubleTransfer, Transfer, Multiple, Branch, Coprocessor, Swi, BlxTarget, Pld, Never, ThumbAddSub, ThumbShift, ThumbImmediate, ThumbData, ThumbBx, ThumbBlxRegister, ThumbHigh, ThumbLoadLiteral, ThumbRegisterOffset, ThumbImmediateOffset, ThumbHalfOffset, ThumbStackOffset, ThumbAddress, ThumbAdjustStack, ThumbPushPop, ThumbBkpt, ThumbMultiple, ThumbBranchIf, ThumbSwi, ThumbBranch, ThumbBlxSuffix, ThumbBlPrefix, ThumbBlSuffix}
-use Rattle.arm_words.specs.declared.spellings.Spelling.{Spelling}
 use Rattle.arm_words.specs.declared.spellings.Spelling.TheVariants as spellings
-use Rattle.ds_base.specs.Digits.{hex_digits}
-use Rattle.asm_text.specs.Text.{preceded, joined, where_set, hex, number, decimal, register_name, register_names, members, register_list}
-use Rattle.asm_text.specs.Names.{suffix, shift_name, data_name, compare_name, move_name, half_name, saturating_name, long_name, half_letter, load_name, block_mode, status_name, field_letters, immediate_name, thumb_data_name, high_name, transfer_name}
-use Rattle.asm_text.specs.Operands.{amount_shown, shift_shown, shifted, operand, small_operand, offset, short_offset, at_offset, address}
-use Rattle.asm_text.specs.Addresses.{arm_target, half_target, thumb_target}
-use Rattle.asm_text.specs.Statements.{with_operands, on, thumb_amount, statement}
-use Rattle.asm_text.specs.declared.sets.Set.{Set}
-use Rattle.asm_text.specs.Listed.{listed, spelling, raw, stated}
+use Rattle.asm_text.specs.Names.{immediate_name}
+use Rattle.asm_text.specs.Operands.{shift_shown, small_operand}
+use Rattle.asm_text.specs.Statements.{with_operands}
 use Rattle.asm_text.proofs.StartLaws.{no_feed, either_plain, plain_of, plain_append, digits_plain, hex_plain}
 
 -- a text without line feeds that isn't empty
@@ -394,13 +378,13 @@ raw_line : (s : Spelling) → IsLine (raw s)
 raw_line (spellings.Word w) = record { plain = plain_append (codes ".word 0x") (hex_digits 8 w) (plain_of (codes ".word 0x") refl) (digits_plain 8 w); long = omega arith }
 raw_line (spellings.Half h) = record { plain = plain_append (codes ".half 0x") (hex_digits 4 h) (plain_of (codes ".half 0x") refl) (digits_plain 4 h); long = omega arith }
 
-stated_line : (at : ℕ) (s : Spelling) (o : Option Instr) → IsLine (stated at s (if_canonical s o))
-stated_line at s None = raw_line s
-stated_line at s (Some i) = choose (canonical_form i) (same_spelling (spelled i) s) refl where
-  choose : (b c : Bool) → canonical_form i ≡ b → IsLine (stated at s (if b && c then Some i else None))
+stated_line : (at number : ℕ) (s : Spelling) (o : Option Instr) → IsLine (stated at number s o)
+stated_line at number s None = raw_line s
+stated_line at number s (Some i) = choose (canonical_form i) (bit_and number (unread_of i).bits == (unread_of i).ones) refl where
+  choose : (b c : Bool) → canonical_form i ≡ b → IsLine (if b && c then statement at i else raw s)
   choose true true e = statement_line at i e
   choose true false e = raw_line s
   choose false c e = raw_line s
 
 pub listed_line : (arch : Arch) (set : Set) (at w : ℕ) → IsLine (listed arch set at w)
-listed_line arch set at w = stated_line at (spelling set w) (decoded arch (spelling set w))
+listed_line arch set at w = stated_line at w (spelling set w) (decoded arch (spelling set w))

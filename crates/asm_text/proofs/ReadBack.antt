@@ -1,27 +1,17 @@
 -- Each word or half is read back from its statement, and so has one of its own.
-use Rattle.std.proofs.Common.{ℕ, ◌≡◌, ◌≢◌, ◌<◌, ◌^◌, ◌%◌, Bool, true, false, List, [], ◌∷◌, ◌++◌, refl, sym, ap, ◌∙◌, arith, Option, Some, None, subst}
-use Rattle.std.specs.Prelude.{codes, ◌&&◌, if◌then◌else◌, IfSome}
-use Rattle.ds_base.specs.declared.processors.Arch.{Arch}
-use Rattle.arm_words.specs.Canonical.{canonical, if_canonical, canonical_form, same_spelling}
-use Rattle.arm_words.specs.Fields.{HasFields}
-use Rattle.arm_words.specs.Spellings.{spelled, decoded, IsInRange}
-use Rattle.arm_words.specs.declared.instructions.Instr.{Instr}
-use Rattle.arm_words.specs.declared.spellings.Spelling.{Spelling}
-use Rattle.arm_words.specs.declared.spellings.Spelling.TheVariants.{Word, Half}
+use Rattle.asm_text.proofs.Words.{ℕ, ◌≡◌, ◌≢◌, ◌<◌, ◌^◌, ◌%◌, Bool, true, false, List, [], ◌∷◌, ◌++◌, refl, sym, ap, ◌∙◌, arith, Option, Some, None}
+use Rattle.asm_text.proofs.Words.{subst, codes, ◌&&◌, if◌then◌else◌, Arch, canonical, if_canonical, canonical_form, same_spelling, HasFields, spelled}
+use Rattle.asm_text.proofs.Words.{decoded, IsInRange, Instr, Spelling, Word, Half, candidate, listed, raw, spelling, read, named_stem, hex_at}
+use Rattle.asm_text.proofs.Words.{hex_digits, both, equal, Raw, Set, Arm, Thumb}
+use Rattle.std.specs.Prelude.{IfSome}
 use Rattle.arm_words.proofs.Laws.{decoded_arm_fields, decoded_thumb_fields}
-use Rattle.asm_text.specs.Reader.Candidates.{candidate, read_in, row_in, stems_in}
-use Rattle.asm_text.specs.Listed.{listed, number_in, raw, spelling, stated}
-use Rattle.asm_text.specs.Reader.Names.{read, named_stem}
-use Rattle.asm_text.specs.Reader.Parts.{hex_at}
-use Rattle.ds_base.specs.Digits.{hex_digits}
-use Rattle.ds_base.proofs.Choices.{both, equal}
-use Rattle.asm_text.specs.declared.reading.names.Stem.TheVariants.{Raw}
-use Rattle.asm_text.specs.declared.sets.Set.{Set}
-use Rattle.asm_text.specs.declared.sets.Set.TheVariants.{Arm, Thumb}
+use Rattle.asm_text.specs.Reader.Candidates.{read_in, row_in, stems_in}
+use Rattle.asm_text.specs.Listed.{number_in}
 use Rattle.asm_text.proofs.Again.{digits_again}
 use Rattle.asm_text.proofs.ArmStems.{word_stem}
 use Rattle.asm_text.proofs.ArmRead.{arm_read}
 use Rattle.asm_text.proofs.NameLaws.{read_raw}
+use Rattle.asm_text.proofs.UnreadBits.{listed_is, spelled_line}
 use Rattle.asm_text.proofs.ThumbRowsAgain.{thumb_again, raw_half_again}
 
 same_is : (s t : Spelling) → same_spelling s t ≡ true → s ≡ t
@@ -66,7 +56,7 @@ half_raw at w h =
     let e : w % 2 ^ 16 ≡ w = omega arith in
     rw (raw_half_again at w h, e) refl
 
-arm_back : (arch : Arch) (at w : ℕ) (o : Option Instr) → canonical arch (Word w) ≡ o → at < 2 ^ 32 → w < 2 ^ 32 → candidate Arm at (stated at (Word w) o) ≡ Some w
+arm_back : (arch : Arch) (at w : ℕ) (o : Option Instr) → canonical arch (Word w) ≡ o → at < 2 ^ 32 → w < 2 ^ 32 → candidate Arm at (spelled_line at (Word w) o) ≡ Some w
 arm_back arch at w None c ha hw = word_raw at w hw
 arm_back arch at w (Some i) c ha hw =
     let k = canon (Word w) (decoded arch (Word w)) i c in
@@ -75,7 +65,7 @@ arm_back arch at w (Some i) c ha hw =
     let e : w % 2 ^ 32 ≡ w = omega arith in
     rw (arm_read at w i ha f k.form k.spelt, n, e) refl
 
-thumb_back : (arch : Arch) (at w : ℕ) (o : Option Instr) → canonical arch (Half w) ≡ o → at < 2 ^ 32 → w < 2 ^ 16 → candidate Thumb at (stated at (Half w) o) ≡ Some w
+thumb_back : (arch : Arch) (at w : ℕ) (o : Option Instr) → canonical arch (Half w) ≡ o → at < 2 ^ 32 → w < 2 ^ 16 → candidate Thumb at (spelled_line at (Half w) o) ≡ Some w
 thumb_back arch at w None c ha hw = half_raw at w hw
 thumb_back arch at w (Some i) c ha hw =
     let k = canon (Half w) (decoded arch (Half w)) i c in
@@ -85,8 +75,8 @@ thumb_back arch at w (Some i) c ha hw =
     rw (thumb_again at w i ha f k.spelt, n, e) refl
 
 pub read_back : (arch : Arch) (set : Set) (at w : ℕ) → at < 2 ^ 32 → IsInRange (spelling set w) → candidate set at (listed arch set at w) ≡ Some w
-read_back arch Arm at w ha hw = arm_back arch at w (canonical arch (Word w)) refl ha hw
-read_back arch Thumb at w ha hw = thumb_back arch at w (canonical arch (Half w)) refl ha hw
+read_back arch Arm at w ha hw = ap (candidate Arm at) (listed_is arch Arm at w hw) ∙ arm_back arch at w (canonical arch (Word w)) refl ha hw
+read_back arch Thumb at w ha hw = ap (candidate Thumb at) (listed_is arch Thumb at w hw) ∙ thumb_back arch at w (canonical arch (Half w)) refl ha hw
 
 -- each statement is one word's
 pub one_text : (arch : Arch) (set : Set) (at v w : ℕ) → at < 2 ^ 32 → IsInRange (spelling set v) → IsInRange (spelling set w) → listed arch set at v ≡ listed arch set at w → v ≡ w

@@ -1,8 +1,6 @@
-use Rattle.std.proofs.Common.{ℕ, Bool, true, ◌≡◌, ◌<◌, ◌*◌, ◌==◌, ◌^◌, refl}
+use Rattle.asm_text.proofs.Words.{ℕ, Bool, true, ◌≡◌, ◌<◌, ◌*◌, ◌^◌, refl, immediate, turned_back, nat_lt, equal, lt_of}
+use Rattle.std.proofs.Common.{◌==◌}
 use Rattle.std.specs.Int.{rotate_right, w32}
-use Rattle.arm_words.specs.Canonical.{immediate, turned_back}
-use Rattle.std.specs.Prelude.{nat_lt}
-use Rattle.ds_base.proofs.Choices.{equal, lt_of}
 use Rattle.arm_words.proofs.Rotations.{all_pairs, pair}
 
 -- the processor's rotation of a byte by twice a number below 16 is the sum of its two parts: by trying all

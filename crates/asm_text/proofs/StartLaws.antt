@@ -1,18 +1,10 @@
 -- First lines and lines of bytes: each is written for one number alone, and has no line feed.
-use Rattle.std.proofs.Common.{ℕ, zero, suc, ◌≡◌, ◌≢◌, ◌<◌, ◌/◌, ◌%◌, ◌^◌, Bool, true, false, List, [], ◌∷◌, ◌++◌, refl, sym, ap, ◌∙◌, arith}
-use Rattle.ds_base.specs.Texts.{HasNoFeed}
-use Rattle.std.proofs.lemmas.List.{append-nil}
-use Rattle.std.specs.Prelude.{codes, if◌then◌else◌, ◌==◌}
-use Rattle.ds_base.specs.declared.processors.Arch.{Arch}
+use Rattle.asm_text.proofs.Words.{ℕ, zero, suc, ◌≡◌, ◌≢◌, ◌<◌, ◌/◌, ◌%◌, ◌^◌, Bool, true, false, List, [], ◌∷◌, ◌++◌, refl, sym, ap, ◌∙◌, arith}
+use Rattle.asm_text.proofs.Words.{HasNoFeed, append-nil, codes, if◌then◌else◌, ◌==◌, Arch, Set, Arm, Thumb, hex_digit, hex_digits, trimmed, hex}
+use Rattle.asm_text.proofs.Words.{hex_at, numeral, set_at, arch_at, start_address_at, listed_byte_at, start, raw_byte}
 use Rattle.ds_base.specs.declared.processors.Arch.TheVariants.{V4, V5}
-use Rattle.asm_text.specs.declared.sets.Set.{Set}
-use Rattle.asm_text.specs.declared.sets.Set.TheVariants.{Arm, Thumb}
-use Rattle.ds_base.specs.Digits.{hex_digit, hex_digits}
-use Rattle.asm_text.specs.Text.{trimmed, hex}
-use Rattle.asm_text.specs.Reader.Parts.{hex_at, numeral}
-use Rattle.asm_text.specs.Reader.Starts.{set_at, arch_at, start_address_at, listed_byte_at}
 use Rattle.asm_text.proofs.Again.{byte_again, hex_again}
-use Rattle.asm_text.specs.Starts.{start, start_name, raw_byte}
+use Rattle.asm_text.specs.Starts.{start_name}
 
 -- no line feed
 pub plain_append : (a b : List ℕ) → HasNoFeed a → HasNoFeed b → HasNoFeed (a ++ b)

@@ -1,20 +1,12 @@
 -- The operands of the Thumb rows with registers and numbers are read as what they were written for.
-use Rattle.std.proofs.Common.{ℕ, ◌≡◌, ◌<◌, ◌*◌, ◌/◌, ◌%◌, ◌^◌, Bool, true, false, List, [], ◌∷◌, ◌++◌, refl, ap, arith, inl, inr, ◌⊎◌}
-use Rattle.std.specs.Prelude.{codes, if◌then◌else◌, ◌==◌, nat_le}
-use Rattle.asm_text.specs.Operands.{amount_shown}
-use Rattle.asm_text.specs.Reader.Parts.{marked_at, register_at}
-use Rattle.asm_text.specs.Statements.{thumb_amount}
-use Rattle.asm_text.specs.Text.{joined, number, register_name}
-use Rattle.asm_text.specs.Reader.ThumbRows.{add_sub_row, immediate_row, data_row, shift_named, small_at, high_row}
+use Rattle.asm_text.proofs.Words.{ℕ, ◌≡◌, ◌<◌, ◌*◌, ◌/◌, ◌%◌, ◌^◌, Bool, true, false, List, [], ◌∷◌, ◌++◌, refl, ap, arith, inl, inr, ◌⊎◌, codes}
+use Rattle.asm_text.proofs.Words.{if◌then◌else◌, ◌==◌, nat_le, amount_shown, marked_at, register_at, thumb_amount, joined, number, register_name}
+use Rattle.asm_text.proofs.Words.{shift_named, Shift, LowRegister, Small, HighOp, ThumbDataOp, ThumbImmediateOp, ThumbAddSub, ThumbShift}
+use Rattle.asm_text.proofs.Words.{ThumbImmediate, ThumbData, ThumbHigh, ThumbAddress, ThumbAdjustStack}
+use Rattle.asm_text.specs.Reader.ThumbRows.{add_sub_row, immediate_row, data_row, small_at, high_row}
 use Rattle.asm_text.proofs.Again.{register_again, marked_again, one_again, two_again}
-use Rattle.arm_words.specs.declared.parts.Shift.{Shift}
 use Rattle.arm_words.specs.declared.parts.Shift.TheVariants as shifts
-use Rattle.arm_words.specs.declared.parts.ThumbOperand.TheVariants.{LowRegister, Small}
-use Rattle.arm_words.specs.declared.operations.HighOp.{HighOp}
-use Rattle.arm_words.specs.declared.operations.ThumbDataOp.{ThumbDataOp}
-use Rattle.arm_words.specs.declared.operations.ThumbImmediateOp.{ThumbImmediateOp}
 use Rattle.arm_words.specs.declared.operations.ThumbImmediateOp.TheVariants as immediate_ops
-use Rattle.arm_words.specs.declared.instructions.Instr.TheVariants.{ThumbAddSub, ThumbShift, ThumbImmediate, ThumbData, ThumbHigh, ThumbAddress, ThumbAdjustStack}
 
 -- a register before a comma
 pub before_comma : (n : ℕ) (rest : List ℕ) → n < 16 → register_at (register_name n ++ 44 ∷ 32 ∷ rest) ≡ (n, 44 ∷ 32 ∷ rest)

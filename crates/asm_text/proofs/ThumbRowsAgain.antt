@@ -1,42 +1,22 @@
 -- Each Thumb instruction is read from its statement.
-use Rattle.std.proofs.Common.{ℕ, ◌≡◌, ◌<◌, ◌+◌, ◌*◌, ◌%◌, ◌/◌, ◌^◌, Bool, true, false, List, [], ◌∷◌, ◌++◌, refl, ap, ◌∙◌, arith, Some}
-use Rattle.std.specs.Prelude.{codes, if◌then◌else◌}
-use Rattle.asm_text.specs.Names.{thumb_data_name, high_name, transfer_name, load_name, shift_name}
-use Rattle.asm_text.specs.Listed.{raw}
-use Rattle.asm_text.specs.Reader.Names.{IsStem, read}
-use Rattle.asm_text.specs.Operands.{at_offset}
-use Rattle.asm_text.specs.Addresses.{thumb_target}
-use Rattle.asm_text.specs.Reader.Parts.{hex_at, marked_at}
-use Rattle.asm_text.specs.Statements.{on, statement, thumb_amount}
-use Rattle.ds_base.specs.Digits.{hex_digits}
-use Rattle.asm_text.specs.Text.{joined, number, hex, register_name, register_list}
-use Rattle.asm_text.specs.Reader.ThumbRows.{thumb_row, shift_named}
-use Rattle.asm_text.specs.declared.reading.names.Stem.TheVariants.{Row, Raw}
-use Rattle.asm_text.specs.declared.reading.thumb_stems.TheConstants.{THUMB_STEMS}
+use Rattle.asm_text.proofs.Words.{ℕ, ◌≡◌, ◌<◌, ◌+◌, ◌*◌, ◌%◌, ◌/◌, ◌^◌, Bool, true, false, List, [], ◌∷◌, ◌++◌, refl, ap, ◌∙◌, arith, Some, codes}
+use Rattle.asm_text.proofs.Words.{if◌then◌else◌, thumb_data_name, high_name, transfer_name, load_name, shift_name, raw, IsStem, read, at_offset}
+use Rattle.asm_text.proofs.Words.{thumb_target, hex_at, marked_at, on, statement, thumb_amount, hex_digits, joined, number, hex, register_name}
+use Rattle.asm_text.proofs.Words.{register_list, shift_named, Row, Raw, THUMB_STEMS, HasFields, spelled, Spelling, Word, Half, Condition, Al, Shift}
+use Rattle.asm_text.proofs.Words.{ThumbOperand, LowRegister, Small, ThumbImmediateOp, ThumbDataOp, HighOp, ThumbTransferOp, Instr, ThumbAddSub}
+use Rattle.asm_text.proofs.Words.{ThumbShift, ThumbImmediate, ThumbData, ThumbBx, ThumbBlxRegister, ThumbHigh, ThumbLoadLiteral, ThumbRegisterOffset}
+use Rattle.asm_text.proofs.Words.{ThumbImmediateOffset, ThumbHalfOffset, ThumbStackOffset, ThumbAddress, ThumbAdjustStack, ThumbPushPop, ThumbBkpt}
+use Rattle.asm_text.proofs.Words.{ThumbMultiple, ThumbBranchIf, ThumbSwi, ThumbBranch, ThumbBlxSuffix, ThumbBlPrefix, ThumbBlSuffix}
+use Rattle.asm_text.specs.Reader.ThumbRows.{thumb_row}
 use Rattle.asm_text.proofs.Again.{half_again, hex_again, one_again}
 use Rattle.asm_text.proofs.NameLaws.{read_on, read_raw}
 use Rattle.asm_text.proofs.ThumbStems.{add_sub_stem, move_stem, data_stem, bx_stem, blx_stem, high_stem, transfer_stem, push_pop_stem, bkpt_stem, multiple_stem, swi_stem, branch_stem, blx_suffix_stem, bl_prefix_stem, bl_suffix_stem, half_stem}
 use Rattle.asm_text.proofs.ThumbRows.{last_number, add_registers, add_small, add_number, adjust, address_of, move_number, compare_number, data_registers, shift_number, high_registers}
 use Rattle.asm_text.proofs.ThumbRowsTransfers.{word_op, byte_op, half_op, register_offset, load_literal, stack_offset, word_number, byte_number, half_number, extra_bit, push_pop, multiple, branch, branch_if}
-use Rattle.arm_words.specs.Fields.{HasFields}
-use Rattle.arm_words.specs.Spellings.{spelled}
-use Rattle.arm_words.specs.declared.spellings.Spelling.{Spelling}
-use Rattle.arm_words.specs.declared.spellings.Spelling.TheVariants.{Word, Half}
-use Rattle.arm_words.specs.declared.parts.Condition.{Condition}
-use Rattle.arm_words.specs.declared.parts.Condition.TheVariants.{Al}
-use Rattle.arm_words.specs.declared.parts.Shift.{Shift}
 use Rattle.arm_words.specs.declared.parts.Shift.TheVariants as shifts
-use Rattle.arm_words.specs.declared.parts.ThumbOperand.{ThumbOperand}
-use Rattle.arm_words.specs.declared.parts.ThumbOperand.TheVariants.{LowRegister, Small}
-use Rattle.arm_words.specs.declared.operations.ThumbImmediateOp.{ThumbImmediateOp}
 use Rattle.arm_words.specs.declared.operations.ThumbImmediateOp.TheVariants as immediate_ops
-use Rattle.arm_words.specs.declared.operations.ThumbDataOp.{ThumbDataOp}
 use Rattle.arm_words.specs.declared.operations.ThumbDataOp.TheVariants as thumb_ops
-use Rattle.arm_words.specs.declared.operations.HighOp.{HighOp}
-use Rattle.arm_words.specs.declared.operations.ThumbTransferOp.{ThumbTransferOp}
 use Rattle.arm_words.specs.declared.operations.ThumbTransferOp.TheVariants as transfer_ops
-use Rattle.arm_words.specs.declared.instructions.Instr.{Instr}
-use Rattle.arm_words.specs.declared.instructions.Instr.TheVariants.{ThumbAddSub, ThumbShift, ThumbImmediate, ThumbData, ThumbBx, ThumbBlxRegister, ThumbHigh, ThumbLoadLiteral, ThumbRegisterOffset, ThumbImmediateOffset, ThumbHalfOffset, ThumbStackOffset, ThumbAddress, ThumbAdjustStack, ThumbPushPop, ThumbBkpt, ThumbMultiple, ThumbBranchIf, ThumbSwi, ThumbBranch, ThumbBlxSuffix, ThumbBlPrefix, ThumbBlSuffix}
 
 -- read as an instruction
 abbrev pub IsRead : ℕ → Instr → Type 0

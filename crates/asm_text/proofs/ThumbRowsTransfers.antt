@@ -1,21 +1,16 @@
 -- The operands of Thumb's transfers and branches are read as what they were written for.
-use Rattle.std.proofs.Common.{ℕ, ◌≡◌, ◌<◌, ◌+◌, ◌*◌, ◌/◌, ◌%◌, ◌^◌, Bool, true, false, List, [], ◌∷◌, ◌++◌, refl, ap, ◌∙◌, arith, append_assoc}
-use Rattle.std.proofs.lemmas.List.{append-nil}
-use Rattle.std.specs.Prelude.{codes, drop, if◌then◌else◌, nat_le}
-use Rattle.asm_text.specs.Addresses.{thumb_target}
-use Rattle.asm_text.specs.Operands.{at_offset}
-use Rattle.asm_text.specs.Reader.Parts.{hex_at, marked_at, one_at, register_at, registers_at}
-use Rattle.asm_text.specs.Text.{joined, number, hex, register_name, members, register_list}
+use Rattle.asm_text.proofs.Words.{ℕ, ◌≡◌, ◌<◌, ◌+◌, ◌*◌, ◌/◌, ◌%◌, ◌^◌, Bool, true, false, List, [], ◌∷◌, ◌++◌, refl, ap, ◌∙◌, arith, append_assoc}
+use Rattle.asm_text.proofs.Words.{append-nil, codes, drop, if◌then◌else◌, nat_le, thumb_target, at_offset, hex_at, marked_at, one_at, register_at}
+use Rattle.asm_text.proofs.Words.{registers_at, joined, number, hex, register_name, members, register_list, Condition, ThumbTransferOp}
+use Rattle.asm_text.proofs.Words.{ThumbLoadLiteral, ThumbRegisterOffset, ThumbImmediateOffset, ThumbHalfOffset, ThumbStackOffset, ThumbPushPop}
+use Rattle.asm_text.proofs.Words.{ThumbMultiple, ThumbBranchIf, ThumbBranch}
 use Rattle.asm_text.specs.Reader.ThumbRows.{transfer_row, number_offset, word_offset, byte_offset, half_offset, push_pop_row, multiple_row, halves_to, branch_by}
 use Rattle.asm_text.proofs.Again.{register_again, marked_again, hex_again}
 use Rattle.asm_text.proofs.AddressLaws.{registers_again}
 use Rattle.asm_text.proofs.ThumbRows.{before_comma, other}
 use Rattle.arm_words.specs.Parts.{condition_number}
-use Rattle.arm_words.specs.declared.parts.Condition.{Condition}
 use Rattle.arm_words.specs.declared.parts.Condition.TheVariants as conditions
-use Rattle.arm_words.specs.declared.operations.ThumbTransferOp.{ThumbTransferOp}
 use Rattle.arm_words.specs.declared.operations.ThumbTransferOp.TheVariants as transfer_ops
-use Rattle.arm_words.specs.declared.instructions.Instr.TheVariants.{ThumbLoadLiteral, ThumbRegisterOffset, ThumbImmediateOffset, ThumbHalfOffset, ThumbStackOffset, ThumbPushPop, ThumbMultiple, ThumbBranchIf, ThumbBranch}
 
 -- a register, and a base and an offset in brackets
 operands : (rd rn : ℕ) (by : List ℕ) →

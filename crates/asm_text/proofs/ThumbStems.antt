@@ -1,19 +1,12 @@
 -- Each name of a Thumb statement is in the table, and is read as the row that it stands for.
-use Rattle.std.proofs.Common.{Bool, true, false, refl}
-use Rattle.std.specs.Prelude.{codes, if◌then◌else◌}
-use Rattle.asm_text.specs.Names.{thumb_data_name, high_name, transfer_name}
-use Rattle.asm_text.specs.Reader.Names.{named_stem, IsStem}
-use Rattle.asm_text.specs.declared.reading.names.Stem.TheVariants.{Row, Raw}
-use Rattle.asm_text.specs.declared.reading.thumb_stems.TheConstants.{THUMB_STEMS}
-use Rattle.arm_words.specs.declared.parts.ThumbOperand.TheVariants.{Small}
+use Rattle.asm_text.proofs.Words.{Bool, true, false, refl, codes, if◌then◌else◌, thumb_data_name, high_name, transfer_name, named_stem, IsStem, Row}
+use Rattle.asm_text.proofs.Words.{Raw, THUMB_STEMS, Small, ThumbDataOp, HighOp, ThumbTransferOp, ThumbAddSub, ThumbImmediate, ThumbData, ThumbBx}
+use Rattle.asm_text.proofs.Words.{ThumbBlxRegister, ThumbHigh, ThumbRegisterOffset, ThumbPushPop, ThumbBkpt, ThumbMultiple, ThumbSwi, ThumbBranch}
+use Rattle.asm_text.proofs.Words.{ThumbBlxSuffix, ThumbBlPrefix, ThumbBlSuffix}
 use Rattle.arm_words.specs.declared.operations.ThumbImmediateOp.TheVariants as immediate_ops
-use Rattle.arm_words.specs.declared.operations.ThumbDataOp.{ThumbDataOp}
 use Rattle.arm_words.specs.declared.operations.ThumbDataOp.TheVariants as thumb_ops
-use Rattle.arm_words.specs.declared.operations.HighOp.{HighOp}
 use Rattle.arm_words.specs.declared.operations.HighOp.TheVariants as high_ops
-use Rattle.arm_words.specs.declared.operations.ThumbTransferOp.{ThumbTransferOp}
 use Rattle.arm_words.specs.declared.operations.ThumbTransferOp.TheVariants as transfer_ops
-use Rattle.arm_words.specs.declared.instructions.Instr.TheVariants.{ThumbAddSub, ThumbImmediate, ThumbData, ThumbBx, ThumbBlxRegister, ThumbHigh, ThumbRegisterOffset, ThumbPushPop, ThumbBkpt, ThumbMultiple, ThumbSwi, ThumbBranch, ThumbBlxSuffix, ThumbBlPrefix, ThumbBlSuffix}
 
 pub add_sub_stem : (subtract : Bool) → IsStem THUMB_STEMS (if subtract then codes "sub" else codes "add") (Row (ThumbAddSub subtract (Small 0) 0 0))
 unfolding named_stem

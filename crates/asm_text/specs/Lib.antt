@@ -1,4 +1,5 @@
 pub mod Addresses
+pub mod Canonical
 pub mod Listed
 pub mod Names
 pub mod Operands

@@ -1,6 +1,5 @@
-use Rattle.std.proofs.Common.{arith, ◌≡◌, ◌+◌, suc, ◌-◌, refl}
+use Rattle.asm_text.proofs.Words.{arith, ◌≡◌, ◌+◌, suc, ◌-◌, refl, members}
 use Rattle.std.proofs.lemmas.Grind.{common_steps}
-use Rattle.asm_text.specs.Text.{members}
 use Rattle.asm_text.proofs.parts.members.Goals as goal
 
 pub loop-r-init : goal.loop-r-init

@@ -1,5 +1,4 @@
-use Rattle.std.proofs.Common.{◌≡◌, ◌≤◌, length}
-use Rattle.asm_text.specs.Text.{trimmed}
+use Rattle.asm_text.proofs.Words.{◌≡◌, ◌≤◌, length, trimmed}
 use Rattle.asm_text.proofs.parts.trimmed.Given as goal
 
 abbrev pub invariant-loop-rest : goal.invariant-loop-rest

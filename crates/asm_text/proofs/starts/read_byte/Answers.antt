@@ -1,7 +1,4 @@
-use Rattle.std.proofs.Common.{ℕ, List, ◌≡◌, ◌%◌, ◌^◌, ap, sym, ◌∙◌, true, false}
-use Rattle.asm_text.specs.Reader.Parts.{hex_at}
-use Rattle.asm_text.specs.Reader.Starts.{listed_byte_at}
-use Rattle.asm_text.specs.Starts.{raw_byte}
+use Rattle.asm_text.proofs.Words.{ℕ, List, ◌≡◌, ◌%◌, ◌^◌, ap, sym, ◌∙◌, true, false, hex_at, listed_byte_at, raw_byte}
 use Rattle.asm_text.proofs.StartLaws.{byte_line_again}
 use Rattle.asm_text.proofs.starts.read_byte.Goals as goal
 

@@ -1,8 +1,5 @@
-use Rattle.std.proofs.Common.{ℕ, List, ◌≡◌, ◌<◌, ◌^◌, ap, sym, ◌∙◌, Option, Some, true, false}
-use Rattle.ds_base.specs.declared.processors.Arch.{Arch}
-use Rattle.asm_text.specs.declared.sets.Set.{Set}
-use Rattle.asm_text.specs.Starts.{start}
-use Rattle.asm_text.specs.Reader.Starts.{arch_at, set_at, start_address_at}
+use Rattle.asm_text.proofs.Words.{ℕ, List, ◌≡◌, ◌<◌, ◌^◌, ap, sym, ◌∙◌, Option, Some, true, false, Arch, Set, start, arch_at, set_at}
+use Rattle.asm_text.proofs.Words.{start_address_at}
 use Rattle.asm_text.proofs.StartLaws.{arch_again, set_again, address_again}
 use Rattle.asm_text.proofs.starts.read_start.Goals as goal
 

@@ -1,7 +1,6 @@
-use Rattle.std.proofs.Common.{◌≡◌, true, refl}
-use Rattle.arm_words.specs.Spellings.{spelled}
-use Rattle.arm_words.specs.declared.instructions.Instr.{Instr}
-use Rattle.arm_words.specs.declared.instructions.Instr.TheVariants.{Bx, BlxRegister, Bkpt, Clz, Saturating, Smla, Smlaw, Smulw, Smlal, Smul, Mul, Mla, LongMultiply, Swap, HalfTransfer, Mrs, Msr, MsrImmediate, Compare, Move, Data, DoubleTransfer, Transfer, Multiple, Branch, Coprocessor, Swi, BlxTarget, Pld, Never}
+use Rattle.asm_text.proofs.Words.{◌≡◌, true, refl, spelled, Instr, Bx, BlxRegister, Bkpt, Clz, Saturating, Smla, Smlaw, Smulw, Smlal, Smul, Mul, Mla}
+use Rattle.asm_text.proofs.Words.{LongMultiply, Swap, HalfTransfer, Mrs, Msr, MsrImmediate, Compare, Move, Data, DoubleTransfer, Transfer, Multiple}
+use Rattle.asm_text.proofs.Words.{Branch, Coprocessor, Swi, BlxTarget, Pld, Never}
 use Rattle.asm_text.specs.Statements.{is_half_spelling}
 use Rattle.asm_text.proofs.statements.statement.Goals as goal
 

@@ -1,7 +1,6 @@
-use Rattle.std.proofs.Common.{◌≡◌, refl}
-use Rattle.arm_words.specs.declared.instructions.Instr.{Instr}
-use Rattle.arm_words.specs.declared.instructions.Instr.TheVariants.{Never, Bx, BlxRegister, Bkpt, Clz, Saturating, Smla, Smlaw, Smulw, Smlal, Smul, Mul, Mla, LongMultiply, Swap, HalfTransfer, Mrs, Msr, Compare, Move, Data, DoubleTransfer, Transfer, Multiple, Branch, Coprocessor, Swi, Pld}
-use Rattle.asm_text.specs.Reader.ArmRows.{arm_row}
+use Rattle.asm_text.proofs.Words.{◌≡◌, refl, Instr, Never, Bx, BlxRegister, Bkpt, Clz, Saturating, Smla, Smlaw, Smulw, Smlal, Smul, Mul, Mla}
+use Rattle.asm_text.proofs.Words.{LongMultiply, Swap, HalfTransfer, Mrs, Msr, Compare, Move, Data, DoubleTransfer, Transfer, Multiple, Branch}
+use Rattle.asm_text.proofs.Words.{Coprocessor, Swi, Pld, arm_row}
 use Rattle.asm_text.proofs.reading.arm_rows.arm_row.Goals as goal
 
 pub returns-in_default-clause-row : goal.returns-in_default-clause-row

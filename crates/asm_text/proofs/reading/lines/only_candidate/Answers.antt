@@ -1,5 +1,4 @@
-use Rattle.std.proofs.Common.{ap, ◌∙◌, arith}
-use Rattle.asm_text.specs.Reader.Candidates.{candidate}
+use Rattle.asm_text.proofs.Words.{ap, ◌∙◌, arith, candidate}
 use Rattle.asm_text.proofs.ReadBack.{read_back}
 use Rattle.asm_text.proofs.reading.lines.only_candidate.Goals as goal
 

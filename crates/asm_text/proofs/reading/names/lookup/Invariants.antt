@@ -1,5 +1,4 @@
-use Rattle.std.proofs.Common.{◌≡◌, length}
-use Rattle.asm_text.specs.Reader.Names.{lookup}
+use Rattle.asm_text.proofs.Words.{◌≡◌, length, lookup}
 use Rattle.asm_text.proofs.reading.names.lookup.Given as goal
 
 abbrev pub invariant-loop-rest : goal.invariant-loop-rest

@@ -1,5 +1,4 @@
-use Rattle.std.proofs.Common.{◌≡◌, length}
-use Rattle.asm_text.specs.Reader.Names.{name}
+use Rattle.asm_text.proofs.Words.{◌≡◌, length, name}
 use Rattle.asm_text.proofs.reading.names.name.Given as goal
 
 abbrev pub invariant-loop-rest : goal.invariant-loop-rest

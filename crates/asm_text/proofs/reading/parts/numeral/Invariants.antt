@@ -1,5 +1,4 @@
-use Rattle.std.proofs.Common.{◌≡◌, length}
-use Rattle.asm_text.specs.Reader.Parts.{numeral}
+use Rattle.asm_text.proofs.Words.{◌≡◌, length, numeral}
 use Rattle.asm_text.proofs.reading.parts.numeral.Given as goal
 
 abbrev pub invariant-loop-rest : goal.invariant-loop-rest

@@ -1,5 +1,4 @@
-use Rattle.std.proofs.Common.{◌≡◌, ℕ, List, ◌-◌, ◌+◌, suc, arith, refl, ap}
-use Rattle.asm_text.specs.Reader.Parts.{registers_at}
+use Rattle.asm_text.proofs.Words.{◌≡◌, ℕ, List, ◌-◌, ◌+◌, suc, arith, refl, ap, registers_at}
 use Rattle.asm_text.proofs.reading.parts.registers_at.Goals as goal
 
 pub loop-init : goal.loop-init

@@ -1,5 +1,4 @@
-use Rattle.std.proofs.Common.{◌≡◌, ◌-◌, ◌<◌, ◌^◌}
-use Rattle.asm_text.specs.Reader.Parts.{members_from, registers_at}
+use Rattle.asm_text.proofs.Words.{◌≡◌, ◌-◌, ◌<◌, ◌^◌, members_from, registers_at}
 use Rattle.asm_text.proofs.reading.parts.registers_at.Given as goal
 
 abbrev pub invariant-loop : goal.invariant-loop

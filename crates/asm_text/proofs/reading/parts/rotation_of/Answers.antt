@@ -1,5 +1,4 @@
-use Rattle.std.proofs.Common.{◌≡◌, ◌-◌, ◌+◌, suc, arith, refl}
-use Rattle.asm_text.specs.Reader.Parts.{rotation_of}
+use Rattle.asm_text.proofs.Words.{◌≡◌, ◌-◌, ◌+◌, suc, arith, refl, rotation_of}
 use Rattle.asm_text.proofs.reading.parts.rotation_of.Goals as goal
 
 pub loop-rotate-init : goal.loop-rotate-init

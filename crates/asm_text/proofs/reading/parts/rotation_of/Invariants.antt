@@ -1,5 +1,4 @@
-use Rattle.std.proofs.Common.{◌≡◌, ◌-◌}
-use Rattle.asm_text.specs.Reader.Parts.{rotation_of, rotation_from}
+use Rattle.asm_text.proofs.Words.{◌≡◌, ◌-◌, rotation_of, rotation_from}
 use Rattle.asm_text.proofs.reading.parts.rotation_of.Given as goal
 
 abbrev pub invariant-loop-rotate : goal.invariant-loop-rotate

@@ -1,0 +1,5 @@
+//! Tests.
+
+mod answers;
+mod framing;
+mod requests;

@@ -6,7 +6,7 @@ ghost use Rattle.arm_words.specs.Fields.{HasFields};
 ghost use Rattle.arm_core.specs.Steps.{executed_word};
 ghost use Rattle.arm7_exec.specs.Arm7.{arm7, step7_of};
 ghost use Rattle.arm_exec.specs.Stopped.{KeepsWhereStopped};
-ghost use Rattle.arm_core.specs.Statuses.{HasStatuses};
+ghost use Rattle.arm_core.specs.StatusLaws.{HasStatuses};
 
 use arm_core::{Bus, Core, Registers, Stepped};
 use arm_exec::{Fetched, execute_word, step};

@@ -10,7 +10,7 @@ use Rattle.arm_core.specs.Exceptions.{interrupt_meaning}
 use Rattle.arm_core.specs.Meanings.{skipped}
 use Rattle.arm_core.specs.Registers.{RegisterState, next, put, register}
 use Rattle.arm_core.specs.Steps.{FetchOutcome, enters, executed_word, fetched}
-use Rattle.arm_core.specs.Statuses.{HasStatuses}
+use Rattle.arm_core.specs.StatusLaws.{HasStatuses}
 use Rattle.arm_exec.proofs.StatusBits.{flags_status}
 use Rattle.arm_exec.proofs.StatusKinds.{AllowsSome}
 use Rattle.arm_exec.proofs.StatusMeanings.{skipped_keeps}

@@ -1,7 +1,7 @@
 use Rattle.std.specs.Prelude.{◌<◌, ◌^◌}
 use Rattle.ds_base.specs.declared.processors.Arch.TheVariants.{V5}
 use Rattle.arm_core.specs.Registers.{RegisterState}
-use Rattle.arm_core.specs.Statuses.{HasStatuses}
+use Rattle.arm_core.specs.StatusLaws.{HasStatuses}
 use Rattle.cp15_tcm.specs.Registers.{Cp15State}
 
 -- What holds of ARM9's registers and of CP15's in every state that comes up: the status registers have only bits that are kept, and what

@@ -7,7 +7,7 @@ use Rattle.arm_words.specs.declared.operations.HalfOp.{HalfOp}
 use Rattle.arm_words.specs.declared.operations.HalfOp.TheVariants.{Strh, Ldrh, Ldrsb, Ldrsh}
 use Rattle.arm_core.specs.Addressing.{list_bytes, listed_registers, lowest, moved_base}
 use Rattle.arm_core.specs.Doubles.{double_at}
-use Rattle.arm_core.specs.Footprints.{AreAsTold, AreOfData, AreReads, AreWrites}
+use Rattle.arm_core.specs.FootprintLaws.{AreAsTold, AreOfData, AreReads, AreWrites}
 use Rattle.arm_core.specs.Multiples as multiples
 use Rattle.arm_core.specs.Multiples.{multiple_meaning, reached_bank, stored_value, stores_new_base, transferred}
 use Rattle.arm_core.specs.Registers.{RegisterState, register}

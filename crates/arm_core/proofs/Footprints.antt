@@ -15,7 +15,8 @@ use Rattle.arm_core.specs.Registers.{RegisterState, register, late_register}
 use Rattle.arm_core.specs.Addressing.{listed_registers, listed_from, list_bytes, lowest, moved_base}
 use Rattle.arm_core.specs.Multiples.{reads, writes, transferred, reached_bank, stored_value, stores_new_base, multiple_meaning}
 use Rattle.arm_core.specs.Doubles.{double_at}
-use Rattle.arm_core.specs.Footprints.{span, access_bytes, accessed_bytes, touched_bytes, first_without, Covers, GoesOver, HasBytes, TellsNothing}
+use Rattle.arm_core.specs.Footprints.{span, access_bytes}
+use Rattle.arm_core.specs.FootprintLaws.{accessed_bytes, touched_bytes, first_without, Covers, GoesOver, HasBytes, TellsNothing}
 use Rattle.arm_core.specs.declared.addresses.Addressed.{Addressed}
 use Rattle.arm_core.specs.declared.touches.Touch.{Touch}
 use Rattle.arm_core.specs.declared.touches.Touch.TheVariants.{Nothing, Span}

@@ -5,11 +5,11 @@ use Rattle.ds_base.specs.declared.processors.Arch.{Arch}
 use Rattle.ds_base.specs.declared.processors.Arch.TheVariants.{V4, V5}
 use Rattle.ds_base.proofs.Choices.{is_equal}
 use Rattle.ds_state.specs.Formats.{keeps_mask, word_format}
-use Rattle.ds_state.specs.Laws.{IsExact, StandsFor}
+use Rattle.ds_state.proofs.Standing.{IsExact, StandsFor}
 use Rattle.ds_state.proofs.Exact.{one_spelling, round_trips}
 use Rattle.arm_core.specs.Registers.{RegisterState}
 use Rattle.arm_core.specs.StatusRegisters.{kept_status_bits}
-use Rattle.arm_core.specs.Statuses.{HasStatuses, IsStatus}
+use Rattle.arm_core.specs.StatusLaws.{HasStatuses, IsStatus}
 use Rattle.arm_core.specs.Saved.{AreRegisters, RegistersAreSaved, registers_format}
 
 -- What a core owes of its format.

@@ -10,6 +10,7 @@ pub mod Enhanced
 pub mod Exceptions
 pub mod Flats
 pub mod Footprints
+pub mod FootprintLaws
 pub mod HalfMultiplies
 pub mod Links
 pub mod Meanings
@@ -19,7 +20,7 @@ pub mod Registers
 pub mod Saturating
 pub mod Shifter
 pub mod StatusRegisters
-pub mod Statuses
+pub mod StatusLaws
 pub mod Saved
 pub mod Steps
 pub mod Swaps

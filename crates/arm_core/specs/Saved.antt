@@ -1,10 +1,10 @@
 use Rattle.std.specs.Prelude.{ℕ, ◌≡◌, ◌<◌, ◌^◌, [], ◌∷◌, length, slice_index}
 use Rattle.ds_base.specs.declared.processors.Arch.{Arch}
 use Rattle.ds_state.specs.Formats.{Format, number_code, done, ◌>>=◌, one_field, each, any, keeps_mask, word_format}
-use Rattle.ds_state.specs.Laws.{OneSpelling, RoundTrips}
+use Rattle.ds_state.specs.FormatLaws.{OneSpelling, RoundTrips}
 use Rattle.arm_core.specs.Registers.{RegisterState}
 use Rattle.arm_core.specs.StatusRegisters.{kept_status_bits}
-use Rattle.arm_core.specs.Statuses.{HasStatuses}
+use Rattle.arm_core.specs.StatusLaws.{HasStatuses}
 
 -- A core in bytes (our choice of form): its 37 registers in their order, each a word. CPSR and each SPSR have only the bits that a status
 -- register of the architecture keeps (ARM manual, A2.5 "Program status registers"); r15 may have any.

@@ -6,6 +6,7 @@ ghost use Rattle.arm_core.specs.Cores.{booted};
 ghost use Rattle.arm_core.specs.Saved.{AreRegisters};
 
 use crate::banks::Bank;
+use ds_base::known;
 use std::marker::Model;
 
 /// The 37 registers of a processor (ARM manual, A2.3 "Registers"). r15 is the address of the instruction that is executed next.
@@ -204,8 +205,8 @@ impl Registers {
     pub fn laws(&self)
         ensures { AreRegisters self.now }
     {
-        are_words(&self.general());
-        are_words(&self.saved);
+        known!(are_words(&self.general()));
+        known!(are_words(&self.saved));
         is_word(self.pc);
     }
 

@@ -1,17 +1,8 @@
-use Rattle.std.proofs.Common.{ℕ, ◌<◌, Bool, true, false, if◌then◌else◌, Option, Some, None, arith}
-use Rattle.ds_base.specs.Accesses.{MemoryMachine, Performed, perform}
-use Rattle.ds_base.specs.declared.left_out.Stop.{Stop}
-use Rattle.ds_base.specs.declared.processors.Arch.{Arch}
-use Rattle.ds_base.specs.declared.processors.Arch.TheVariants.{V4, V5}
-use Rattle.arm_words.specs.Parts.{condition_of}
-use Rattle.arm_words.specs.declared.instructions.Instr.{Instr}
-use Rattle.arm_core.specs.Conditions.{holds}
+use Rattle.arm_exec.proofs.Words.{ℕ, ◌<◌, Bool, true, false, if◌then◌else◌, Option, Some, None, arith, MemoryMachine, Performed, perform, Stop, Arch}
+use Rattle.arm_exec.proofs.Words.{V4, V5, condition_of, Instr, holds, Meaning, Outcome, concluded, carried_out, interrupt_meaning, undefined_meaning}
+use Rattle.arm_exec.proofs.Words.{meaning, skipped, RegisterState, Setting, enters, executed_unless, executed_word, fetched, step_of, stop_of}
 use Rattle.arm_core.specs.Costs.{clocks}
-use Rattle.arm_core.specs.Effects.{Meaning, Outcome, cost_of, concluded, carried_out}
-use Rattle.arm_core.specs.Exceptions.{interrupt_meaning, undefined_meaning}
-use Rattle.arm_core.specs.Meanings.{meaning, skipped}
-use Rattle.arm_core.specs.Registers.{RegisterState}
-use Rattle.arm_core.specs.Steps.{Setting, enters, executed_unless, executed_word, fetched, step_of, stop_of}
+use Rattle.arm_core.specs.Effects.{cost_of}
 use Rattle.arm_core.specs.declared.classes.Class.{Class}
 use Rattle.arm_core.specs.declared.classes.Class.TheVariants as classes
 use Rattle.arm_exec.specs.Costs.{CostsSome}

@@ -1,13 +1,7 @@
-use Rattle.std.proofs.Common.{◌≡◌, ◌&&◌, Bool, true, false, if◌then◌else◌, Option, None, refl, ap, ◌∙◌}
-use Rattle.ds_base.specs.Accesses.{MemoryMachine}
+use Rattle.arm_exec.proofs.Words.{◌≡◌, ◌&&◌, Bool, true, false, if◌then◌else◌, Option, None, refl, ap, ◌∙◌, MemoryMachine, Instr, holds, Meaning}
+use Rattle.arm_exec.proofs.Words.{carried_out, act, condition, skipped, RegisterState, Setting, executed_unless, swi_stop, equivalent}
 use Rattle.ds_base.proofs.Choices.{if_true}
-use Rattle.arm_words.specs.declared.instructions.Instr.{Instr}
-use Rattle.arm_core.specs.Conditions.{holds}
-use Rattle.arm_core.specs.Effects.{Meaning, carried_out}
-use Rattle.arm_core.specs.Meanings.{act, condition, skipped}
-use Rattle.arm_core.specs.Registers.{RegisterState}
-use Rattle.arm_core.specs.Steps.{Setting, executed, executed_unless, swi_stop}
-use Rattle.arm_core.specs.Thumb.{equivalent}
+use Rattle.arm_core.specs.Steps.{executed}
 
 unless : {A : Type 0} (in_rom effect : Bool) (stop : Option A) → effect ≡ true → (if in_rom then stop else None) ≡ None
     → (if in_rom && effect then stop else None) ≡ None

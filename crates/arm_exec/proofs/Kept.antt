@@ -1,14 +1,6 @@
-use Rattle.std.proofs.Common.{ℕ, Bool, true, false, if◌then◌else◌, Option, Some, None, refl}
-use Rattle.ds_base.specs.Accesses.{MemoryMachine, Performed, perform}
-use Rattle.ds_base.specs.declared.left_out.Stop.{Stop}
-use Rattle.arm_words.specs.Parts.{condition_of}
-use Rattle.arm_words.specs.declared.instructions.Instr.{Instr}
-use Rattle.arm_core.specs.Conditions.{holds}
-use Rattle.arm_core.specs.Effects.{Meaning, Outcome, concluded, carried_out}
-use Rattle.arm_core.specs.Exceptions.{interrupt_meaning, undefined_meaning}
-use Rattle.arm_core.specs.Meanings.{meaning, skipped}
-use Rattle.arm_core.specs.Registers.{RegisterState}
-use Rattle.arm_core.specs.Steps.{Setting, enters, executed_unless, executed_word, fetched, step_of, stop_of}
+use Rattle.arm_exec.proofs.Words.{ℕ, Bool, true, false, if◌then◌else◌, Option, Some, None, refl, MemoryMachine, Performed, perform, Stop}
+use Rattle.arm_exec.proofs.Words.{condition_of, Instr, holds, Meaning, Outcome, concluded, carried_out, interrupt_meaning, undefined_meaning, meaning}
+use Rattle.arm_exec.proofs.Words.{skipped, RegisterState, Setting, enters, executed_unless, executed_word, fetched, step_of, stop_of}
 use Rattle.arm_exec.specs.Stopped.{KeepsWhereStopped}
 
 module _ {S : Type 0} (memory : MemoryMachine S) (setting : Setting) (s : RegisterState) where

@@ -1,3 +1,4 @@
+mod Words
 pub mod Executing
 pub mod Kept
 pub mod Lists

@@ -1,10 +1,8 @@
-use Rattle.std.proofs.Common.{ℕ, suc, ◌≡◌, ◌<◌, ◌+◌, ◌-◌, ◌%◌, ◌^◌, true, false, List, [], ◌∷◌, Some, None, refl, ◌∙◌, ap, arith}
-use Rattle.ds_base.specs.Bits.{bit}
-use Rattle.ds_base.specs.declared.left_out.Stop.{Stop}
-use Rattle.ds_base.specs.declared.memories.Width.TheVariants.{Word}
-use Rattle.ds_base.specs.Accesses.{MemoryMachine, Access, Write, perform}
+use Rattle.arm_exec.proofs.Words.{ℕ, ◌≡◌, ◌<◌, ◌+◌, ◌-◌, ◌%◌, ◌^◌, true, false, List, [], ◌∷◌, Some, None, refl, ◌∙◌, ap, arith, bit, Stop, Word}
+use Rattle.arm_exec.proofs.Words.{MemoryMachine, Access, perform, reads, last_of}
+use Rattle.std.proofs.Common.{suc}
+use Rattle.ds_base.specs.Accesses.{Write}
 use Rattle.arm_core.specs.Addressing.{listed_from}
-use Rattle.arm_core.specs.Multiples.{reads, last_of}
 
 -- what is left of a list from a register on
 abbrev pub left : ℕ → ℕ → List ℕ

@@ -1,13 +1,10 @@
-use Rattle.std.proofs.Common.{ℕ, ◌≡◌, ◌<◌, ◌+◌, ◌*◌, ◌/◌, ◌%◌, ◌^◌, min, bit_and, bit_or, Bool, true, false, [], ◌∷◌, refl, sym, ap, subst, ◌∙◌, arith}
+use Rattle.arm_exec.proofs.Words.{ℕ, ◌≡◌, ◌<◌, ◌+◌, ◌*◌, ◌/◌, ◌%◌, ◌^◌, bit_and, Bool, true, false, [], ◌∷◌, refl, sym, ap, subst, ◌∙◌, arith, flag}
+use Rattle.arm_exec.proofs.Words.{Arch, V4, V5, kept_status_bits, IsStatus}
+use Rattle.std.proofs.Common.{min, bit_or}
 use Rattle.std.specs.Int.{bit_at}
 use Rattle.std.proofs.lemmas.Nat.{and_assoc, and_comm}
 use Rattle.std.proofs.lemmas.Nat.Bits.{bit_at_and, bit_at_or, same_from_bits}
-use Rattle.ds_base.specs.Bits.{flag}
-use Rattle.ds_base.specs.declared.processors.Arch.{Arch}
-use Rattle.ds_base.specs.declared.processors.Arch.TheVariants.{V4, V5}
 use Rattle.arm_words.proofs.Masks.{masked, part}
-use Rattle.arm_core.specs.StatusRegisters.{kept_status_bits}
-use Rattle.arm_core.specs.Statuses.{IsStatus}
 
 -- What makes a number of a status register from others.
 

@@ -1,12 +1,10 @@
-use Rattle.std.proofs.Common.{ℕ, ◌≡◌, ◌&&◌, ◌==◌, bit_and, Bool, true, false, if◌then◌else◌, List, [], ◌∷◌, Option, Some, None, refl}
-use Rattle.ds_base.specs.declared.processors.Arch.{Arch}
-use Rattle.ds_base.specs.declared.processors.Arch.TheVariants.{V4, V5}
+use Rattle.arm_exec.proofs.Words.{ℕ, ◌≡◌, ◌&&◌, ◌==◌, bit_and, Bool, true, false, if◌then◌else◌, List, [], ◌∷◌, Option, Some, None, refl, Arch, V4}
+use Rattle.arm_exec.proofs.Words.{V5, Instr, Saturating, Smla, Smlaw, ThumbAddress, equivalent}
 use Rattle.ds_base.proofs.Choices.{both}
 use Rattle.arm_words.specs.ArmTable.{decoded_arm, conditional_arm, top4, branch_rows, half_multiply_rows, half_product_rows, multiply_rows, half_transfer_rows, status_register_rows, immediate_status_rows, data_rows, double_rows, transfer_rows, multiple_rows, coprocessor_rows, unconditional_rows}
 use Rattle.arm_words.specs.Rows.{InstructionRow, agrees, first, or_else}
 use Rattle.arm_words.specs.ThumbTable.{decoded_thumb, thumb_sum_rows, thumb_register_rows, thumb_literal_rows, thumb_offset_rows, thumb_stack_rows, thumb_multiple_rows, thumb_branch_rows}
-use Rattle.arm_words.specs.declared.instructions.Instr.{Instr}
-use Rattle.arm_words.specs.declared.instructions.Instr.TheVariants.{Saturating, Smla, Smlaw, ThumbImmediate, ThumbData, ThumbHigh, ThumbRegisterOffset, ThumbAddress, ThumbPushPop}
+use Rattle.arm_words.specs.declared.instructions.Instr.TheVariants.{ThumbImmediate, ThumbData, ThumbHigh, ThumbRegisterOffset, ThumbPushPop}
 use Rattle.arm_words.specs.declared.operations.HighOp.{HighOp}
 use Rattle.arm_words.specs.declared.operations.HighOp.TheVariants as high_ops
 use Rattle.arm_words.specs.declared.operations.ThumbDataOp.{ThumbDataOp}
@@ -15,7 +13,7 @@ use Rattle.arm_words.specs.declared.operations.ThumbImmediateOp.{ThumbImmediateO
 use Rattle.arm_words.specs.declared.operations.ThumbImmediateOp.TheVariants as immediate_ops
 use Rattle.arm_words.specs.declared.operations.ThumbTransferOp.{ThumbTransferOp}
 use Rattle.arm_words.specs.declared.operations.ThumbTransferOp.TheVariants as transfer_ops
-use Rattle.arm_core.specs.Thumb.{address_instr, equivalent, high_instr, immediate_instr, offset_instr, register_instr, stack_instr}
+use Rattle.arm_core.specs.Thumb.{address_instr, high_instr, immediate_instr, offset_instr, register_instr, stack_instr}
 use Rattle.arm_exec.proofs.StatusMoves.{HasQ}
 
 -- Which instructions set Q: none that ARMv4 has.

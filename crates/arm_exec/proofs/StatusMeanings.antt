@@ -1,44 +1,38 @@
-use Rattle.std.proofs.Common.{ℕ, ◌+◌, ◌-◌, ◌*◌, ◌%◌, ◌^◌, ◌==◌, ◌&&◌, not, Bool, true, false, if◌then◌else◌, List, slice_index}
-use Rattle.std.specs.Int.{leading_zeros, w32}
-use Rattle.ds_base.specs.Bits.{bit, flag}
+use Rattle.arm_exec.proofs.Words.{ℕ, ◌+◌, ◌-◌, ◌*◌, ◌%◌, ◌^◌, ◌==◌, ◌&&◌, Bool, true, false, if◌then◌else◌, List, slice_index, w32, bit, flag, Half}
+use Rattle.arm_exec.proofs.Words.{Word, Arch, V4, V5, FieldMask, Bank, UndefinedInstruction, SoftwareInterrupt, Breakpoint, Interrupt, Computed}
+use Rattle.arm_exec.proofs.Words.{listed_registers, with_base, distance, with_thumb, Meaning, entered, interrupt_meaning, undefined_meaning, linked}
+use Rattle.arm_exec.proofs.Words.{skipped, last_of, loaded, loaded_r15, with_sign, RegisterState, bank, next, put, register, saved_place, with_lost}
+use Rattle.arm_exec.proofs.Words.{HasStatuses}
+use Rattle.std.proofs.Common.{not}
+use Rattle.std.specs.Int.{leading_zeros}
 use Rattle.ds_base.specs.declared.memories.Width.{Width}
-use Rattle.ds_base.specs.declared.memories.Width.TheVariants.{Byte, Half, Word}
-use Rattle.ds_base.specs.declared.processors.Arch.{Arch}
-use Rattle.ds_base.specs.declared.processors.Arch.TheVariants.{V4, V5}
+use Rattle.ds_base.specs.declared.memories.Width.TheVariants.{Byte}
 use Rattle.arm_words.specs.declared.operations.CompareOp.{CompareOp}
 use Rattle.arm_words.specs.declared.operations.DataOp.{DataOp}
 use Rattle.arm_words.specs.declared.operations.HalfOp.{HalfOp}
 use Rattle.arm_words.specs.declared.operations.HalfOp.TheVariants.{Strh, Ldrh, Ldrsb, Ldrsh}
 use Rattle.arm_words.specs.declared.operations.MoveOp.{MoveOp}
-use Rattle.arm_words.specs.declared.parts.FieldMask.{FieldMask}
 use Rattle.arm_words.specs.declared.parts.Offset.{Offset}
 use Rattle.arm_words.specs.declared.parts.Operand.{Operand}
 use Rattle.arm_words.specs.declared.parts.ShortOffset.{ShortOffset}
 use Rattle.arm_core.specs.declared.addresses.Addressed.{Addressed}
-use Rattle.arm_core.specs.declared.banks.Bank.{Bank}
-use Rattle.arm_core.specs.declared.exceptions.Exception.TheVariants.{UndefinedInstruction, SoftwareInterrupt, Breakpoint, Interrupt}
 use Rattle.arm_core.specs.declared.saturating.Saturated.{Saturated}
-use Rattle.arm_core.specs.declared.results.Computed.{Computed}
-use Rattle.arm_core.specs.Addressing.{addressed, list_bytes, listed_registers, moved_base, offset_value, short_offset_value, with_base}
-use Rattle.arm_core.specs.Branches.{address_meaning, branch_meaning, distance, exchange_meaning, prefix_meaning, suffix_meaning, with_thumb}
+use Rattle.arm_core.specs.Addressing.{addressed, list_bytes, moved_base, offset_value, short_offset_value}
+use Rattle.arm_core.specs.Branches.{address_meaning, branch_meaning, exchange_meaning, prefix_meaning, suffix_meaning}
 use Rattle.arm_core.specs.Conditions.{c_flag, v_flag}
 use Rattle.arm_core.specs.DataProcessing.{compare_meaning, compare_result, data_meaning, data_result, move_meaning, move_result, sum_of}
 use Rattle.arm_core.specs.Doubles.{double_at, double_meaning}
-use Rattle.arm_core.specs.Effects.{Meaning}
 use Rattle.arm_core.specs.Enhanced.{clz_meaning, coprocessor_meaning}
-use Rattle.arm_core.specs.Exceptions.{breakpoint_meaning, entered, interrupt_meaning, software_meaning, undefined_meaning}
+use Rattle.arm_core.specs.Exceptions.{breakpoint_meaning, software_meaning}
 use Rattle.arm_core.specs.HalfMultiplies.{accumulated_meaning, half_long_meaning, chosen_half, product_meaning}
-use Rattle.arm_core.specs.Links.{link_exchange_meaning, link_suffix_meaning, link_target_meaning, linked}
-use Rattle.arm_core.specs.Meanings.{skipped}
-use Rattle.arm_core.specs.Multiples.{keeps_base, last_of, load_multiple_meaning, loaded, loaded_r15, multiple_meaning, reached_bank, reaches_user, transferred}
-use Rattle.arm_core.specs.Multiplies.{long_multiply_meaning, long_product, multiply_meaning, with_sign}
-use Rattle.arm_core.specs.Registers.{RegisterState, bank, next, put, register, saved_place}
-use Rattle.arm_core.specs.Saturating.{saturating_meaning, saturating_result, with_lost}
+use Rattle.arm_core.specs.Links.{link_exchange_meaning, link_suffix_meaning, link_target_meaning}
+use Rattle.arm_core.specs.Multiples.{keeps_base, load_multiple_meaning, multiple_meaning, reached_bank, reaches_user, transferred}
+use Rattle.arm_core.specs.Multiplies.{long_multiply_meaning, long_product, multiply_meaning}
+use Rattle.arm_core.specs.Saturating.{saturating_meaning, saturating_result}
 use Rattle.arm_core.specs.Shifter.{first_operand, shifter_operand}
 use Rattle.arm_core.specs.StatusRegisters.{mrs_meaning, msr_meaning, saved_value}
 use Rattle.arm_core.specs.Swaps.{swap_meaning}
 use Rattle.arm_core.specs.Transfers.{half_or_signed_meaning, half_transfer_meaning, literal_meaning, load_meaning, load_word_meaning, rotated_half, rotated_word, signed_byte, signed_half, signed_half_meaning, store_meaning, transfer_meaning, word_or_byte_meaning}
-use Rattle.arm_core.specs.Statuses.{HasStatuses}
 use Rattle.arm_exec.proofs.StatusMoves.{HasQ, base_has, entered_has, exchanged_has, finished_has, flags_has, jumped_has, linked_has, loaded_has, long_has, lost_has, next_has, one_of, put_has, r15_has, sign_has, thumb_has, word_has, written_has}
 
 -- What each class of instructions leaves are numbers that status registers can have.

@@ -1,28 +1,21 @@
-use Rattle.std.proofs.Common.{ℕ, ◌⊎◌, inl, inr, ◌+◌, ◌/◌, ◌%◌, ◌^◌, ◌<◌, ◌≤◌, ◌==◌, ◌&&◌, bit_and, Bool, true, false, if◌then◌else◌, List, [], ◌∷◌, length, All, slice_index, slice_set, Option, Some, None, is_some, refl, sym, subst, arith}
-use Rattle.std.specs.Int.{bit_not, w32}
+use Rattle.arm_exec.proofs.Words.{ℕ, ◌+◌, ◌/◌, ◌%◌, ◌^◌, ◌<◌, ◌==◌, ◌&&◌, bit_and, Bool, true, false, if◌then◌else◌, List, [], ◌∷◌, slice_index}
+use Rattle.arm_exec.proofs.Words.{Option, Some, None, refl, sym, subst, arith, w32, bit, flag, Arch, V4, V5, FieldMask, Bank, UndefinedInstruction}
+use Rattle.arm_exec.proofs.Words.{SoftwareInterrupt, Breakpoint, Interrupt, Computed, with_base, with_thumb, entered, linked, loaded, loaded_r15}
+use Rattle.arm_exec.proofs.Words.{with_sign, RegisterState, bank, is_thumb, next, put, saved_place, with_lost, kept_status_bits, IsStatus}
+use Rattle.arm_exec.proofs.Words.{HasStatuses}
+use Rattle.std.proofs.Common.{◌⊎◌, inl, inr, ◌≤◌, length, All, slice_set, is_some}
+use Rattle.std.specs.Int.{bit_not}
 use Rattle.std.proofs.lemmas.Bool.{cases_lt}
 use Rattle.std.proofs.lemmas.List.{get_or_past}
 use Rattle.std.proofs.lemmas.List.Elements.{All-set}
-use Rattle.ds_base.specs.Bits.{bit, flag}
-use Rattle.ds_base.specs.declared.processors.Arch.{Arch}
-use Rattle.ds_base.specs.declared.processors.Arch.TheVariants.{V4, V5}
-use Rattle.arm_words.specs.declared.parts.FieldMask.{FieldMask}
-use Rattle.arm_core.specs.declared.banks.Bank.{Bank}
 use Rattle.arm_core.specs.declared.exceptions.Exception.{Exception}
-use Rattle.arm_core.specs.declared.exceptions.Exception.TheVariants.{UndefinedInstruction, SoftwareInterrupt, Breakpoint, Interrupt}
-use Rattle.arm_core.specs.declared.results.Computed.{Computed}
-use Rattle.arm_core.specs.Addressing.{with_base}
-use Rattle.arm_core.specs.Branches.{exchanged, with_thumb}
+use Rattle.arm_core.specs.Branches.{exchanged}
 use Rattle.arm_core.specs.DataProcessing.{result_put, restored, restored_from, with_flags}
-use Rattle.arm_core.specs.Exceptions.{entered, entry_bank, entry_mode, kept_status}
-use Rattle.arm_core.specs.Links.{linked}
-use Rattle.arm_core.specs.Multiples.{loaded, loaded_r15}
-use Rattle.arm_core.specs.Multiplies.{with_long, with_sign}
-use Rattle.arm_core.specs.Registers.{RegisterState, bank, is_thumb, jumped, next, place, put, put_in, saved_place}
-use Rattle.arm_core.specs.Saturating.{with_lost}
-use Rattle.arm_core.specs.StatusRegisters.{field_bits, kept_status_bits, replaced, status_register_written, with_saved, writable}
+use Rattle.arm_core.specs.Exceptions.{entry_bank, entry_mode, kept_status}
+use Rattle.arm_core.specs.Multiplies.{with_long}
+use Rattle.arm_core.specs.Registers.{jumped, place, put_in}
+use Rattle.arm_core.specs.StatusRegisters.{field_bits, replaced, status_register_written, with_saved, writable}
 use Rattle.arm_core.specs.Transfers.{put_word}
-use Rattle.arm_core.specs.Statuses.{IsStatus, HasStatuses}
 use Rattle.arm_exec.proofs.StatusBits.{and_status, under_status, kept_status as kept_of, or_status, no_status, thumb_status, four_flags, two_flags, entered_of}
 
 -- What is done with the registers leaves numbers that status registers can have.

@@ -1,24 +1,14 @@
-use Rattle.std.proofs.Common.{ℕ, ◌%◌, ◌^◌, Bool, true, false, if◌then◌else◌, Option, Some, None}
-use Rattle.ds_base.specs.Accesses.{MemoryMachine, Performed, perform}
-use Rattle.ds_base.specs.declared.left_out.Stop.{Stop}
-use Rattle.ds_base.specs.declared.memories.Width.TheVariants.{Half, Word}
-use Rattle.ds_base.specs.declared.processors.Arch.{Arch}
-use Rattle.arm_words.specs.Parts.{condition_of}
-use Rattle.arm_words.specs.declared.instructions.Instr.{Instr}
-use Rattle.arm_words.specs.declared.instructions.Instr.TheVariants.{Bx, BlxRegister, Bkpt, Clz, Saturating, Smla, Smlaw, Smulw, Smlal, Smul, Mul, Mla, LongMultiply, Swap, HalfTransfer, Mrs, Msr, MsrImmediate, Compare, Move, Data, DoubleTransfer, Transfer, Multiple, Branch, Coprocessor, Swi, BlxTarget, Pld, Never, ThumbAddress, ThumbBlxSuffix, ThumbLoadLiteral, ThumbBranchIf, ThumbBranch, ThumbBlPrefix, ThumbBlSuffix}
-use Rattle.arm_core.specs.Branches.{distance}
-use Rattle.arm_core.specs.Conditions.{holds}
-use Rattle.arm_core.specs.Effects.{Meaning, Outcome, concluded, carried_out}
-use Rattle.arm_core.specs.Enhanced.{enhanced_meaning, link_meaning}
-use Rattle.arm_core.specs.Exceptions.{interrupt_meaning, undefined_meaning}
+use Rattle.arm_exec.proofs.Words.{ℕ, ◌%◌, ◌^◌, Bool, true, false, if◌then◌else◌, Option, Some, None, MemoryMachine, Performed, perform, Stop, Half}
+use Rattle.arm_exec.proofs.Words.{Word, Arch, condition_of, Instr, Saturating, Smla, Smlaw, Coprocessor, ThumbAddress, distance, holds, Meaning}
+use Rattle.arm_exec.proofs.Words.{Outcome, concluded, carried_out, enhanced_meaning, interrupt_meaning, undefined_meaning, act, act_multiply}
+use Rattle.arm_exec.proofs.Words.{condition, meaning, skipped, RegisterState, is_thumb, register, Setting, enters, executed_unless, executed_word}
+use Rattle.arm_exec.proofs.Words.{fetched, step_of, stop_of, equivalent, has_coprocessor, HasStatuses}
+use Rattle.arm_words.specs.declared.instructions.Instr.TheVariants.{Bx, BlxRegister, Bkpt, Clz, Smulw, Smlal, Smul, Mul, Mla, LongMultiply, Swap, HalfTransfer, Mrs, Msr, MsrImmediate, Compare, Move, Data, DoubleTransfer, Transfer, Multiple, Branch, Swi, BlxTarget, Pld, Never, ThumbBlxSuffix, ThumbLoadLiteral, ThumbBranchIf, ThumbBranch, ThumbBlPrefix, ThumbBlSuffix}
+use Rattle.arm_core.specs.Enhanced.{link_meaning}
 use Rattle.arm_core.specs.HalfMultiplies.{half_product, wide_product}
-use Rattle.arm_core.specs.Meanings.{act, act_branch, act_multiply, act_processing, condition, meaning, skipped}
-use Rattle.arm_core.specs.Registers.{RegisterState, is_thumb, register}
+use Rattle.arm_core.specs.Meanings.{act_branch, act_processing}
 use Rattle.arm_core.specs.Shifter.{rotated_immediate}
-use Rattle.arm_core.specs.Steps.{FetchOutcome, Setting, enters, executed_unless, executed_word, fetched, fetched_half, fetched_word, step_of, stop_of}
-use Rattle.arm_core.specs.Thumb.{equivalent}
-use Rattle.arm_core.specs.Undefined.{has_coprocessor}
-use Rattle.arm_core.specs.Statuses.{HasStatuses}
+use Rattle.arm_core.specs.Steps.{FetchOutcome, fetched_half, fetched_word}
 use Rattle.arm_exec.proofs.StatusKinds.{Allows, AllowsSome, arm_allows, equivalent_allows, thumb_allows}
 use Rattle.arm_exec.proofs.StatusMeanings.{Keeps, accumulated_keeps, address_keeps, branch_keeps, breakpoint_keeps, clz_keeps, compare_keeps, coprocessor_keeps, data_keeps, double_keeps, either, exchange_keeps, half_long_keeps, half_transfer_keeps, interrupt_keeps, link_exchange_keeps, link_suffix_keeps, link_target_keeps, literal_keeps, long_multiply_keeps, move_keeps, mrs_keeps, msr_keeps, multiple_keeps, multiply_keeps, prefix_keeps, product_keeps, saturating_keeps, skipped_keeps, software_keeps, suffix_keeps, swap_keeps, transfer_keeps, undefined_keeps}
 

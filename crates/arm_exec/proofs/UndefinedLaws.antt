@@ -1,7 +1,5 @@
-use Rattle.std.proofs.Common.{◌≡◌, true, false, refl}
+use Rattle.arm_exec.proofs.Words.{◌≡◌, true, false, refl, Coprocessor, has_coprocessor}
 use Rattle.ds_base.proofs.Choices.{not_true}
-use Rattle.arm_words.specs.declared.instructions.Instr.TheVariants.{Coprocessor}
-use Rattle.arm_core.specs.Undefined.{has_coprocessor}
 use Rattle.arm_exec.specs.Undefined.{EntersUndefined}
 
 not_there : {A : Type 0} → false ≡ true → A

@@ -12,7 +12,7 @@ use arm_core::{
     Bank, Bus, Class, Registers, Stepped, has, keeps_base, list_bytes, lowest, moved_base,
     stores_new_base, transferred, write_back,
 };
-use ds_base::{Arch, Stop, Width};
+use ds_base::{Arch, Stop, Width, known};
 
 /// Loads the registers of a list from an address up. r15 isn't written; its value, or that of the last register, is the answer.
 #[inline(always)]
@@ -96,7 +96,7 @@ fn load_from<B: Bus>(
     ensures last { result ≡ last_of (perform B.memory (B.state bus.old) (reads from (listed_registers list))).values }
     ensures same { B.identity bus.new ≡ B.identity bus.old }
 {
-    let _ = arch;
+    known!(arch);
     let bank = reached_bank(s, user && !has(list, 15));
     s.go_on();
     load_list(s, bus, bank, from, list)

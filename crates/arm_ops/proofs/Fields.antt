@@ -30,9 +30,10 @@ use Rattle.arm_words.specs.declared.parts.ShortOffset.TheVariants.{ShortNumber, 
 use Rattle.arm_words.specs.declared.parts.ThumbOperand.{ThumbOperand}
 use Rattle.arm_words.specs.declared.parts.ThumbOperand.TheVariants.{LowRegister, Small}
 use Rattle.arm_core.specs.Thumb.{equivalent, high_instr, immediate_instr, low_operand, offset_instr, register_instr, transfer_equivalent}
-use Rattle.arm_ops.specs.Operations.{compare_number, compare_op, compare_register, data_by_shift, data_number, data_op, data_register, data_shifted, is_plain, is_simple, mla_op, move_number, move_op, move_shifted, mul_op, number_access, number_transfer, op_of, operation_of, register_access, register_transfer, rotated_number, shifted_register, short_transfer_op, transfer_op, AreAllLow, AreLow, HasOp, HasOperation, HasTransfer, IsMove}
+use Rattle.arm_ops.specs.Operations.{compare_number, compare_op, compare_register, data_by_shift, data_number, data_op, data_register, data_shifted, is_plain, is_simple, mla_op, move_number, move_op, move_shifted, mul_op, multiple_op, number_access, number_transfer, op_of, operation_of, register_access, register_transfer, rotated_number, shifted_register, short_transfer_op, transfer_op, AreAllLow, AreLow, HasOp, HasOperation, HasTransfer, IsMove}
 use Rattle.arm_ops.specs.declared.operations.Number.{Number}
 use Rattle.arm_ops.specs.declared.operations.Op.{Op}
+use Rattle.arm_ops.specs.declared.operations.RegisterList.{RegisterList}
 use Rattle.arm_ops.specs.declared.operations.Transfer.{Transfer}
 use Rattle.arm_ops.specs.declared.operations.TransferOp.{TransferOp}
 use Rattle.arm_ops.specs.declared.operations.TransferOp.TheVariants.{WordOrByte, HalfOrSigned}
@@ -230,6 +231,12 @@ short_fields : (it : Transfer) (offset : ShortOffset) → HasTransfer it → Has
 short_fields it (ShortNumber offset) h o = number_transfer_fields it offset h
 short_fields it (ShortRegister rm) h o = register_transfer_fields it rm h o
 
+-- transfers of registers
+multiple_fields : (user : Bool) (it : RegisterList) → it.rn < 16 → HasOp (multiple_op user it)
+multiple_fields true it h = tt
+multiple_fields false it h =
+    picked (it.rn == 15 || it.list == 0) _ _ tt (λ e. (let each = or_parts (it.rn == 15) (it.list == 0) e in (one_low it.rn h each.0, each.1)))
+
 pub op_fields : (i : Instr) → HasFields i → HasOp (op_of i)
 op_fields (instrs.Data cond op set_flags rn rd operand) h = data_fields (instrs.Data cond op set_flags rn rd operand) op set_flags rd rn operand h h.1 h.0 h.2
 op_fields (instrs.Compare cond op rn operand) h = compare_fields (instrs.Compare cond op rn operand) op rn operand h h.0 h.1
@@ -242,6 +249,8 @@ op_fields (instrs.ThumbLoadLiteral rd immed) h = omega (arith, h)
 op_fields (instrs.Mul cond set_flags rd rm rs) h = mul_fields (instrs.Mul cond set_flags rd rm rs) set_flags rd rm rs h h
 op_fields (instrs.Mla cond set_flags rd rm rs rn) h = mla_fields (instrs.Mla cond set_flags rd rm rs rn) set_flags rd rm rs rn h h
 op_fields (instrs.LongMultiply cond signed accumulate set_flags rd_lo rd_hi rm rs) h = h
+op_fields (instrs.Multiple cond pre up user write_back load rn list) h =
+    multiple_fields user (record { pre = pre; up = up; write_back = write_back; load = load; rn = rn; list = list }) h.0
 op_fields (instrs.Bx cond rm) h = h
 op_fields (instrs.ThumbAddress stack rd immed) h = h
 op_fields (instrs.ThumbBlPrefix offset) h = h
@@ -300,9 +309,12 @@ offset_fields transfer_ops.Ldrh rm rn rd m n d = register_transfer_fields (at_su
 offset_fields transfer_ops.Ldrb rm rn rd m n d = register_transfer_fields (at_sum (WordOrByte true true) rn rd) rm (low rn n, low rd d) (low rm m)
 offset_fields transfer_ops.Ldrsh rm rn rd m n d = register_transfer_fields (at_sum (HalfOrSigned Ldrsh) rn rd) rm (low rn n, low rd d) (low rm m)
 
+stack_low : 13 < 16
+stack_low = omega arith
+
 stack_fields : (load extra : Bool) (list : ℕ) → HasOp (op_of (transfer_equivalent (instrs.ThumbPushPop load extra list)))
-stack_fields true extra list = tt
-stack_fields false extra list = tt
+stack_fields true extra list = multiple_fields false _ stack_low
+stack_fields false extra list = multiple_fields false _ stack_low
 
 address_fields : (stack : Bool) (rd immed : ℕ) → rd < 8 → immed < 256 → HasOp (op_of (equivalent (instrs.ThumbAddress stack rd immed)))
 address_fields true rd immed d k = op_fields (equivalent (instrs.ThumbAddress true rd immed)) (omega arith, low rd d, (omega arith, k))
@@ -324,7 +336,7 @@ instr_fields (instrs.ThumbHalfOffset load immed rn rd) h =
     number_transfer_fields (at_sum (HalfOrSigned (if load then Ldrh else Strh)) rn rd) (2 * immed) (low rn h.1, low rd h.2)
 instr_fields (instrs.ThumbStackOffset load rd immed) h = number_transfer_fields (at_sum (WordOrByte load false) 13 rd) (4 * immed) (omega arith, low rd h.0)
 instr_fields (instrs.ThumbPushPop load extra list) h = stack_fields load extra list
-instr_fields (instrs.ThumbMultiple load rn list) h = tt
+instr_fields (instrs.ThumbMultiple load rn list) h = multiple_fields false _ (low rn h.0)
 instr_fields (instrs.ThumbBx rm) h = h
 instr_fields (instrs.ThumbBlxRegister rm) h = tt
 instr_fields (instrs.ThumbBkpt immed) h = tt

@@ -25,6 +25,7 @@ use Rattle.arm_core.specs.Branches.{exchanged}
 use Rattle.arm_core.specs.Conditions.{holds}
 use Rattle.arm_core.specs.DataProcessing.{compare_meaning, data_meaning, move_meaning}
 use Rattle.arm_core.specs.Effects.{Meaning, cost_of}
+use Rattle.arm_core.specs.Multiples.{multiple_meaning}
 use Rattle.arm_core.specs.Meanings.{act, act_processing, condition, meaning, skipped}
 use Rattle.arm_core.specs.Registers.{RegisterState, put, register}
 use Rattle.arm_core.specs.Steps.{swi_stop}
@@ -33,11 +34,12 @@ use Rattle.arm_core.specs.Transfers.{put_word, transfer_meaning}
 use Rattle.arm_core.specs.declared.shifter.Shifted32.{Shifted32}
 use Rattle.arm_exec.proofs.Costs.{some_cost}
 use Rattle.arm_ops.specs.Meanings.{access_at, access_by, access_made, access_meaning, access_of, accesses_by, compare_by, data_by, meaning_by, op_meaning, operation_meaning, register_operand, shifted_operand}
-use Rattle.arm_ops.specs.Operations.{compare_number, compare_op, compare_register, data_by_shift, data_number, data_op, data_register, data_shifted, is_other, is_plain, mla_op, move_number, move_op, move_shifted, mul_op, number_access, number_transfer, op_of, operation_of, register_access, register_transfer, rotated_number, shifted_register, transfer_op}
+use Rattle.arm_ops.specs.Operations.{compare_number, compare_op, compare_register, data_by_shift, data_number, data_op, data_register, data_shifted, is_decoded, is_other, is_plain, mla_op, move_number, move_op, move_shifted, mul_op, multiple_op, number_access, number_transfer, op_of, operation_of, register_access, register_transfer, rotated_number, shifted_register, transfer_op}
 use Rattle.arm_ops.specs.declared.operations.DataAccess.{DataAccess}
 use Rattle.arm_ops.specs.declared.operations.Op.{Op}
-use Rattle.arm_ops.specs.declared.operations.Op.TheVariants.{Plain}
+use Rattle.arm_ops.specs.declared.operations.Op.TheVariants.{Multiple, Other, Plain}
 use Rattle.arm_ops.specs.declared.operations.Operation.{Operation}
+use Rattle.arm_ops.specs.declared.operations.RegisterList.{RegisterList}
 use Rattle.arm_ops.specs.declared.operations.Transfer.{Transfer}
 use Rattle.arm_ops.specs.declared.operations.TransferOp.{TransferOp}
 use Rattle.arm_ops.specs.declared.operations.TransferOp.TheVariants.{WordOrByte, HalfOrSigned}
@@ -248,8 +250,18 @@ transfer_means arch s load byte pre up write_back rn rd (offsets.Register rm shi
     one_means arch s _ (is_plain shift amount) _ _
     (λ e. register_transfer_means arch s (WordOrByte load byte) pre up write_back rn rd rm ∙ plain_access arch s (transfer_by (WordOrByte load byte) pre up write_back rn rd) rm shift amount e) refl
 
--- an operation that is run does what its instruction does
-op_means : (arch : Arch) (base : ℕ) (s : RegisterState) (e : Instr) → is_other (op_of e) ≡ false → op_meaning arch s (op_of e) ≡ act arch base s e
+-- transfers of registers
+multiple_means : (arch : Arch) (s : RegisterState) (user : Bool) (it : RegisterList) → is_decoded (multiple_op user it) ≡ true
+    → op_meaning arch s (multiple_op user it) ≡ multiple_meaning arch s it.pre it.up user it.write_back it.load it.rn it.list
+multiple_means arch s true it h = absurd (true≢false (sym h))
+multiple_means arch s false it h = by_low (it.rn == 15 || it.list == 0) h where
+  by_low : (b : Bool) → is_decoded (if b then Other else Multiple it) ≡ true
+      → op_meaning arch s (if b then Other else Multiple it) ≡ multiple_meaning arch s it.pre it.up false it.write_back it.load it.rn it.list
+  by_low true k = absurd (true≢false (sym k))
+  by_low false k = refl
+
+-- an operation that is known does what its instruction does
+op_means : (arch : Arch) (base : ℕ) (s : RegisterState) (e : Instr) → is_decoded (op_of e) ≡ true → op_meaning arch s (op_of e) ≡ act arch base s e
 op_means arch base s (instrs.Data cond op set_flags rn rd operand) h = data_means arch s cond op set_flags rd rn operand
 op_means arch base s (instrs.Compare cond op rn operand) h = compare_means arch s cond op rn operand
 op_means arch base s (instrs.Move cond op set_flags rd operand) h = move_means arch s cond op set_flags rd operand
@@ -267,17 +279,19 @@ op_means arch base s (instrs.Bx cond rm) h = refl
 op_means arch base s (instrs.ThumbAddress stack rd immed) h = refl
 op_means arch base s (instrs.ThumbBlPrefix offset) h = refl
 op_means arch base s (instrs.ThumbBlSuffix offset) h = refl
-op_means arch base s _ h = absurd (true≢false h)
+op_means arch base s (instrs.Multiple cond pre up user write_back load rn list) h =
+    multiple_means arch s user (record { pre = pre; up = up; write_back = write_back; load = load; rn = rn; list = list }) h
+op_means arch base s _ h = absurd (true≢false (sym h))
 
-pub operation_means : (arch : Arch) (base : ℕ) (s : RegisterState) (instr : Instr) → is_other (operation_of (Some instr)).op ≡ false
+pub operation_means : (arch : Arch) (base : ℕ) (s : RegisterState) (instr : Instr) → is_decoded (operation_of (Some instr)).op ≡ true
     → meaning arch base s instr ≡ operation_meaning arch s (operation_of (Some instr))
 operation_means arch base s instr h =
     rw h (ap (λ (m : Meaning). if holds (condition instr) s.cpsr then m else skipped s) (sym (op_means arch base s (equivalent instr) h)))
 
 -- and it needs no stop before its accesses: SWI isn't decoded
-pub operation_needs_none : (instr : Instr) → is_other (operation_of (Some instr)).op ≡ false → swi_stop instr ≡ None
-operation_needs_none (instrs.Swi cond immed) h = absurd (true≢false h)
-operation_needs_none (instrs.ThumbSwi immed) h = absurd (true≢false h)
+pub operation_needs_none : (instr : Instr) → is_decoded (operation_of (Some instr)).op ≡ true → swi_stop instr ≡ None
+operation_needs_none (instrs.Swi cond immed) h = absurd (true≢false (sym h))
+operation_needs_none (instrs.ThumbSwi immed) h = absurd (true≢false (sym h))
 operation_needs_none _ h = refl
 
 -- ---- what is run
@@ -292,15 +306,27 @@ plain_none arch s (instrs.Data cond op set_flags rn rd operand) = refl
 plain_none arch s _ = refl
 
 -- so an operation's accesses are those of its access, if it has one
-op_accesses : (arch : Arch) (s : RegisterState) (op : Op) → (op_meaning arch s op).accesses ≡ accesses_by arch s (access_of s op)
-op_accesses arch s (Plain instr) = plain_none arch s instr
-op_accesses arch s _ = refl
+op_accesses : (arch : Arch) (s : RegisterState) (op : Op) → is_other op ≡ false → (op_meaning arch s op).accesses ≡ accesses_by arch s (access_of s op)
+op_accesses arch s (Plain instr) h = plain_none arch s instr
+op_accesses arch s (Multiple it) h = absurd (true≢false h)
+op_accesses arch s _ h = refl
 
-pub made_accesses : (arch : Arch) (s : RegisterState) (operation : Operation) → (operation_meaning arch s operation).accesses ≡ accesses_by arch s (access_made s operation)
-made_accesses arch s operation = by_holds (holds operation.cond s.cpsr) where
+pub made_accesses : (arch : Arch) (s : RegisterState) (operation : Operation) → is_other operation.op ≡ false
+    → (operation_meaning arch s operation).accesses ≡ accesses_by arch s (access_made s operation)
+made_accesses arch s operation h = by_holds (holds operation.cond s.cpsr) where
   by_holds : (b : Bool) → (if b then op_meaning arch s operation.op else skipped s).accesses ≡ accesses_by arch s (if b then access_of s operation.op else None)
-  by_holds true = op_accesses arch s operation.op
+  by_holds true = op_accesses arch s operation.op h
   by_holds false = refl
+
+-- so it is where its condition fails, whatever it is
+pub skipped_accesses : (arch : Arch) (s : RegisterState) (operation : Operation) → holds operation.cond s.cpsr ≡ false
+    → (operation_meaning arch s operation).accesses ≡ accesses_by arch s (access_made s operation)
+skipped_accesses arch s operation h = rw h refl
+
+-- what makes one access at most is known
+pub run_is_decoded : (op : Op) → is_other op ≡ false → is_decoded op ≡ true
+run_is_decoded Other h = absurd (true≢false h)
+run_is_decoded _ h = refl
 
 -- and one that has an access means that access
 pub made_means : (arch : Arch) (s : RegisterState) (operation : Operation) (access : DataAccess) → access_made s operation ≡ Some access

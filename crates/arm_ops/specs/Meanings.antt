@@ -15,6 +15,7 @@ use Rattle.arm_words.specs.declared.parts.Shift.TheVariants.{Lsl, Lsr, Asr, Ror}
 use Rattle.arm_core.specs.Addressing.{addressed, addressed_literal}
 use Rattle.arm_core.specs.Branches.{branch_meaning, exchange_meaning, prefix_meaning, suffix_meaning}
 use Rattle.arm_core.specs.Conditions.{c_flag, holds, v_flag}
+use Rattle.arm_core.specs.Multiples.{multiple_meaning}
 use Rattle.arm_core.specs.Multiplies.{multiply_meaning}
 use Rattle.arm_core.specs.DataProcessing.{compare_result, data_meaning, data_result, result_put, move_result, with_flags}
 use Rattle.arm_core.specs.Effects.{Meaning}
@@ -29,7 +30,7 @@ use Rattle.arm_ops.specs.Operations.{shifted_register}
 use Rattle.arm_ops.specs.declared.operations.DataAccess.{DataAccess}
 use Rattle.arm_ops.specs.declared.operations.Number.{Number}
 use Rattle.arm_ops.specs.declared.operations.Op.{Op}
-use Rattle.arm_ops.specs.declared.operations.Op.TheVariants.{AndNumber, EorNumber, SubNumber, RsbNumber, AddNumber, OrrNumber, BicNumber, AndRegister, EorRegister, SubRegister, RsbRegister, AddRegister, OrrRegister, BicRegister, SubsNumber, AddsNumber, AndsRegister, EorsRegister, SubsRegister, AddsRegister, OrrsRegister, BicsRegister, DataShifted, DataShiftedBy, TstNumber, CmpNumber, CmnNumber, TstRegister, CmpRegister, MovNumber, MovsNumber, MovLsl, MovLsr, MovAsr, MovRor, MovsLsl, MovsLsr, MovsAsr, Mul, Mla, Branch, Exchange, LinkPrefix, LinkSuffix, LdrNumber, LdrbNumber, LdrhNumber, StrNumber, StrbNumber, StrhNumber, LdrRegister, LdrbRegister, LdrhRegister, StrRegister, StrbRegister, StrhRegister, AccessNumber, AccessRegister, TransferNumber, TransferRegister, TransferShifted, Literal, Plain}
+use Rattle.arm_ops.specs.declared.operations.Op.TheVariants.{AndNumber, EorNumber, SubNumber, RsbNumber, AddNumber, OrrNumber, BicNumber, AndRegister, EorRegister, SubRegister, RsbRegister, AddRegister, OrrRegister, BicRegister, SubsNumber, AddsNumber, AndsRegister, EorsRegister, SubsRegister, AddsRegister, OrrsRegister, BicsRegister, DataShifted, DataShiftedBy, TstNumber, CmpNumber, CmnNumber, TstRegister, CmpRegister, MovNumber, MovsNumber, MovLsl, MovLsr, MovAsr, MovRor, MovsLsl, MovsLsr, MovsAsr, Mul, Mla, Branch, Exchange, LinkPrefix, LinkSuffix, LdrNumber, LdrbNumber, LdrhNumber, StrNumber, StrbNumber, StrhNumber, LdrRegister, LdrbRegister, LdrhRegister, StrRegister, StrbRegister, StrhRegister, AccessNumber, AccessRegister, TransferNumber, TransferRegister, TransferShifted, Literal, Multiple, Plain}
 use Rattle.arm_ops.specs.declared.operations.Operation.{Operation}
 use Rattle.arm_ops.specs.declared.operations.ShiftedRegister.{ShiftedRegister}
 use Rattle.arm_ops.specs.declared.operations.Transfer.{Transfer}
@@ -111,7 +112,8 @@ single_transfer_meaning arch s (HalfOrSigned op) rn rd to = half_or_signed_meani
 abbrev pub access_meaning : Arch → RegisterState → DataAccess → Meaning
 access_meaning arch s it = single_transfer_meaning arch s it.op it.rn it.rd it.to
 
--- what an operation means that makes none; an instruction as it is enters no exception, so it means the same with every base of the vectors
+-- what an operation means that makes none, or more than one; an instruction as it is enters no exception, so it means the same with every base of
+-- the vectors
 abbrev pub computed : Arch → RegisterState → Op → Meaning
 computed arch s (AndNumber rd rn value) = data_by s And false rd rn (kept s value)
 computed arch s (EorNumber rd rn value) = data_by s Eor false rd rn (kept s value)
@@ -157,6 +159,7 @@ computed arch s (Branch link far) = branch_meaning s link far
 computed arch s (Exchange rm) = exchange_meaning s rm
 computed arch s (LinkPrefix offset) = prefix_meaning s offset
 computed arch s (LinkSuffix offset) = suffix_meaning s offset
+computed arch s (Multiple it) = multiple_meaning arch s it.pre it.up false it.write_back it.load it.rn it.list
 computed arch s (Plain instr) = act_processing arch 0 s instr
 computed arch s _ = skipped s
 
@@ -190,11 +193,10 @@ IsNearAccess near (Fetch at width) = is_ram at ≡ true
 IsNearAccess near (Read at width) = (is_ram at || near at) ≡ true
 IsNearAccess near (Write at width value) = is_ram at ≡ true
 
--- at most one access is made, and it is near
-abbrev pub IsNear : (ℕ → Bool) → List Access → Type 0
-IsNear near [] = Unit {0}
-IsNear near (access ∷ []) = IsNearAccess near access
-IsNear near (access ∷ other ∷ rest) = ⊥
+-- all accesses are near
+abbrev pub AreNear : (ℕ → Bool) → List Access → Type 0
+AreNear near [] = Unit {0}
+AreNear near (access ∷ rest) = IsNearAccess near access × AreNear near rest
 
 -- a memory machine refuses no write of RAM
 abbrev pub RefusesNoneInRam : {S : Type 0} → MemoryMachine S → Type 0

@@ -26,8 +26,9 @@ use Rattle.arm_core.specs.Thumb.{equivalent}
 use Rattle.arm_ops.specs.declared.operations.DataAccess.{DataAccess}
 use Rattle.arm_ops.specs.declared.operations.Number.{Number}
 use Rattle.arm_ops.specs.declared.operations.Op.{Op}
-use Rattle.arm_ops.specs.declared.operations.Op.TheVariants.{Other, AndNumber, EorNumber, SubNumber, RsbNumber, AddNumber, OrrNumber, BicNumber, AndRegister, EorRegister, SubRegister, RsbRegister, AddRegister, OrrRegister, BicRegister, SubsNumber, AddsNumber, AndsRegister, EorsRegister, SubsRegister, AddsRegister, OrrsRegister, BicsRegister, DataShifted, DataShiftedBy, TstNumber, CmpNumber, CmnNumber, TstRegister, CmpRegister, MovNumber, MovsNumber, MovLsl, MovLsr, MovAsr, MovRor, MovsLsl, MovsLsr, MovsAsr, Mul, Mla, Branch, Exchange, LinkPrefix, LinkSuffix, LdrNumber, LdrbNumber, LdrhNumber, StrNumber, StrbNumber, StrhNumber, LdrRegister, LdrbRegister, LdrhRegister, StrRegister, StrbRegister, StrhRegister, AccessNumber, AccessRegister, TransferNumber, TransferRegister, TransferShifted, Literal, Plain}
+use Rattle.arm_ops.specs.declared.operations.Op.TheVariants.{Other, AndNumber, EorNumber, SubNumber, RsbNumber, AddNumber, OrrNumber, BicNumber, AndRegister, EorRegister, SubRegister, RsbRegister, AddRegister, OrrRegister, BicRegister, SubsNumber, AddsNumber, AndsRegister, EorsRegister, SubsRegister, AddsRegister, OrrsRegister, BicsRegister, DataShifted, DataShiftedBy, TstNumber, CmpNumber, CmnNumber, TstRegister, CmpRegister, MovNumber, MovsNumber, MovLsl, MovLsr, MovAsr, MovRor, MovsLsl, MovsLsr, MovsAsr, Mul, Mla, Branch, Exchange, LinkPrefix, LinkSuffix, LdrNumber, LdrbNumber, LdrhNumber, StrNumber, StrbNumber, StrhNumber, LdrRegister, LdrbRegister, LdrhRegister, StrRegister, StrbRegister, StrhRegister, AccessNumber, AccessRegister, TransferNumber, TransferRegister, TransferShifted, Literal, Multiple, Plain}
 use Rattle.arm_ops.specs.declared.operations.Operation.{Operation}
+use Rattle.arm_ops.specs.declared.operations.RegisterList.{RegisterList}
 use Rattle.arm_ops.specs.declared.operations.ShiftedRegister.{ShiftedRegister}
 use Rattle.arm_ops.specs.declared.operations.Transfer.{Transfer}
 use Rattle.arm_ops.specs.declared.operations.TransferOp.{TransferOp}
@@ -192,6 +193,11 @@ abbrev pub short_transfer_op : Transfer → ShortOffset → Op
 short_transfer_op it (ShortNumber offset) = number_transfer it offset
 short_transfer_op it (ShortRegister rm) = register_transfer it rm
 
+-- a transfer of registers: of the mode's own, by a base that isn't r15, and of one at least
+abbrev pub multiple_op : Bool → RegisterList → Op
+multiple_op true it = Other
+multiple_op false it = if it.rn == 15 || it.list == 0 then Other else Multiple it
+
 -- of an instruction in its form of ARM code
 abbrev pub op_of : Instr → Op
 op_of (instrs.Data cond op set_flags rn rd operand) = data_op (instrs.Data cond op set_flags rn rd operand) op set_flags rd rn operand
@@ -209,21 +215,29 @@ op_of (instrs.Mul cond set_flags rd rm rs) = mul_op (instrs.Mul cond set_flags r
 op_of (instrs.Mla cond set_flags rd rm rs rn) = mla_op (instrs.Mla cond set_flags rd rm rs rn) set_flags rd rm rs rn
 op_of (instrs.LongMultiply cond signed accumulate set_flags rd_lo rd_hi rm rs) =
     Plain (instrs.LongMultiply cond signed accumulate set_flags rd_lo rd_hi rm rs)
+op_of (instrs.Multiple cond pre up user write_back load rn list) =
+    multiple_op user (record { pre = pre; up = up; write_back = write_back; load = load; rn = rn; list = list })
 op_of (instrs.Bx cond rm) = Exchange rm
 op_of (instrs.ThumbAddress stack rd immed) = Plain (instrs.ThumbAddress stack rd immed)
 op_of (instrs.ThumbBlPrefix offset) = LinkPrefix offset
 op_of (instrs.ThumbBlSuffix offset) = LinkSuffix offset
 op_of _ = Other
 
--- it isn't run here
+-- it is another instruction, or none
+abbrev pub is_decoded : Op → Bool
+is_decoded Other = false
+is_decoded _ = true
+
+-- it makes more accesses than one, or is another instruction
 abbrev pub is_other : Op → Bool
 is_other Other = true
+is_other (Multiple it) = true
 is_other _ = false
 
--- an instruction, or none, as an operation; what isn't run here has the condition that always holds, so that its own needn't be asked for
+-- an instruction, or none, as an operation; another one has the condition that always holds, so that its own needn't be asked for
 abbrev pub operation_of : Option Instr → Operation
 operation_of None = record { cond = Al; op = Other }
-operation_of (Some instr) = let op = op_of (equivalent instr) in record { cond = if is_other op then Al else condition instr; op = op }
+operation_of (Some instr) = let op = op_of (equivalent instr) in record { cond = if is_decoded op then condition instr else Al; op = op }
 
 -- an access loads
 abbrev pub loads : TransferOp → Bool
@@ -314,8 +328,9 @@ HasOp (TransferNumber it offset) = HasTransfer it
 HasOp (TransferRegister it rm) = HasTransfer it × (rm < 16)
 HasOp (TransferShifted it by) = HasTransfer it × HasShifted by
 HasOp (Literal rd immed) = rd < 16
+HasOp (Multiple it) = (it.rn < 15) × ((it.list == 0) ≡ false)
 HasOp (Plain instr) = HasFields instr
 
 -- and what is decoded keeps to them
 abbrev pub HasOperation : Operation → Type 0
-HasOperation operation = HasOp operation.op × (is_other operation.op ≡ true → operation.cond ≡ Al)
+HasOperation operation = HasOp operation.op × (is_decoded operation.op ≡ false → operation.cond ≡ Al)

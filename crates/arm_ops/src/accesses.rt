@@ -3,7 +3,7 @@
 ghost use Rattle.std.specs.Prelude.{◌≡◌, ◌<◌, true, false, IfSome};
 ghost use Rattle.arm_core.specs.Addressing.{addressed};
 ghost use Rattle.arm_core.specs.Effects.{carried_out};
-ghost use Rattle.arm_core.specs.Footprints.{HasBytes, accessed_bytes, touched_bytes};
+ghost use Rattle.arm_core.specs.FootprintLaws.{HasBytes, accessed_bytes, touched_bytes};
 ghost use Rattle.arm_core.specs.Registers.{RegisterState};
 ghost use Rattle.arm_ops.specs.Meanings as ops;
 ghost use Rattle.arm_ops.specs.Meanings.{access_meaning};

@@ -1,6 +1,6 @@
 //! Instructions made into operations.
 
-ghost use Rattle.std.specs.Prelude.{◌≡◌, ◌<◌, ℕ, IfSome, false, if◌then◌else◌};
+ghost use Rattle.std.specs.Prelude.{◌≡◌, ◌<◌, ℕ, IfSome, true, if◌then◌else◌};
 ghost use Rattle.arm_words.specs.Fields.{HasFields, HasOperand};
 ghost use Rattle.arm_words.specs.declared.parts.Condition.TheVariants.{Al};
 ghost use Rattle.arm_core.specs.Meanings.{meaning};
@@ -8,9 +8,11 @@ ghost use Rattle.ds_base.specs.declared.processors.Arch.{Arch};
 ghost use Rattle.arm_core.specs.Registers.{RegisterState};
 ghost use Rattle.arm_ops.specs.Meanings.{operation_meaning};
 ghost use Rattle.arm_ops.specs.Operations as ops;
-ghost use Rattle.arm_ops.specs.Operations.{is_other, operation_of, HasOp, HasOperation};
+ghost use Rattle.arm_ops.specs.Operations.{is_decoded, operation_of, HasOp, HasOperation};
 
-use crate::operations::{Number, Op, Operation, ShiftedRegister, Transfer, TransferOp};
+use crate::operations::{
+    Number, Op, Operation, RegisterList, ShiftedRegister, Transfer, TransferOp,
+};
 use arm_core::{condition, equivalent, rotated_immediate};
 use arm_exec::{distance8, distance11, distance24};
 use arm_words::{
@@ -368,6 +370,16 @@ fn short_transfer_op(it: Transfer, offset: ShortOffset) -> Op
     }
 }
 
+/// LDM or STM; what needs another bank, has r15 as its base or an empty list is done by the instruction itself.
+fn multiple_op(user: bool, it: RegisterList) -> Op
+    ensures { result ≡ ops.multiple_op user it }
+{
+    if user || it.rn == 15 || it.list == 0 {
+        return Op::Other;
+    }
+    Op::Multiple(it)
+}
+
 /// The operation of an instruction in its form of ARM code.
 #[rattlefmt::skip]
 #[tactic(auto, using(crate::proofs::Fields::op_fields))]
@@ -395,14 +407,17 @@ fn op_of(instr: &Instr) -> Op
         Instr::ThumbLoadLiteral { rd, immed } => Op::Literal { rd, immed },
         Instr::Mul { set_flags, rd, rm, rs, .. } => mul_op(*instr, set_flags, rd, rm, rs),
         Instr::Mla { set_flags, rd, rm, rs, rn, .. } => mla_op(*instr, set_flags, rd, rm, rs, rn),
+        Instr::Multiple { pre, up, user, write_back, load, rn, list, .. } => {
+            multiple_op(user, RegisterList { pre, up, write_back, load, rn, list })
+        }
         Instr::LongMultiply { .. } | Instr::ThumbAddress { .. } => Op::Plain(*instr),
         _ => Op::Other,
     }
 }
 
-/// An operation with its condition, which for one that isn't run here always holds.
+/// An operation with its condition, which for another instruction always holds.
 fn operation_by(cond: Condition, op: Op) -> Operation
-    ensures cond { result.cond ≡ (if is_other op then Al else cond) }
+    ensures cond { result.cond ≡ (if is_decoded op then cond else Al) }
     ensures op { result.op ≡ op }
 {
     match op {
@@ -421,7 +436,7 @@ pub fn operation(instr: Option<Instr>) -> Operation
     requires { IfSome instr HasFields }
     ensures operation { result ≡ operation_of instr }
     ensures fields { HasOperation result }
-    ensures means { IfSome instr (λ i. (arch : Arch) → (base : ℕ) → (s : RegisterState) → is_other result.op ≡ false → meaning arch base s i
+    ensures means { IfSome instr (λ i. (arch : Arch) → (base : ℕ) → (s : RegisterState) → is_decoded result.op ≡ true → meaning arch base s i
         ≡ operation_meaning arch s result) }
 {
     match instr {

@@ -49,6 +49,23 @@ pub struct Transfer {
     pub rd: u8,
 }
 
+/// What a load or store of several registers does: LDM or STM of the mode's own registers.
+#[derive(Clone, Copy)]
+pub struct RegisterList {
+    /// Whether the base itself is left out: P.
+    pub pre: bool,
+    /// Whether the registers go up from the base: U.
+    pub up: bool,
+    /// Whether the base is written back.
+    pub write_back: bool,
+    /// Whether they are loaded, and not stored.
+    pub load: bool,
+    /// The base.
+    pub rn: u8,
+    /// The registers, a bit for each.
+    pub list: u16,
+}
+
 /// The access of data that an operation makes.
 #[derive(Clone, Copy)]
 pub struct DataAccess {
@@ -421,6 +438,8 @@ pub enum Op {
         rd: u8,
         immed: u8,
     },
+    /// LDM or STM of the mode's own registers, of one at least, by a base that isn't r15.
+    Multiple(RegisterList),
     /// An instruction as it is, which makes no access and needs nothing that is left out.
     Plain(Instr),
 }

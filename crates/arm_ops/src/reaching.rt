@@ -2,7 +2,7 @@
 
 ghost use Rattle.std.specs.Prelude.{◌≡◌, false, true, None, IfSome};
 ghost use Rattle.arm_core.specs.Effects.{carried_out};
-ghost use Rattle.arm_core.specs.Footprints.{TellsNothing, accessed_bytes, touched_bytes};
+ghost use Rattle.arm_core.specs.FootprintLaws.{TellsNothing, accessed_bytes, touched_bytes};
 ghost use Rattle.arm_core.specs.Registers.{RegisterState};
 ghost use Rattle.arm_core.specs.declared.outcomes.Stepped.TheVariants.{Cost};
 ghost use Rattle.arm_ops.specs.Meanings.{access_made, accesses_by, operation_meaning};
@@ -16,20 +16,20 @@ use arm_core::{Bus, Registers, Stepped, Touch};
 use arm_exec::skip;
 use ds_base::Arch;
 
-/// Whether it is an instruction that isn't run here.
+/// Whether it is an instruction that makes more accesses than one, or isn't run here.
 #[inline(always)]
 pub fn is_other(operation: &Operation) -> bool
     ensures { result ≡ ops.is_other operation.now.op }
 {
-    matches!(operation.op, Op::Other)
+    matches!(operation.op, Op::Other | Op::Multiple(_))
 }
 
-/// The access of data that an operation makes which is run here, if it makes one: none where its condition fails. Of another instruction
-/// it tells nothing: None, whatever that reaches.
+/// The access of data that an operation makes which makes one at most: none where its condition fails. Of another it tells nothing: None, whatever
+/// that reaches.
 #[inline(always)]
 pub fn access_made(s: &Registers, operation: &Operation) -> Option<DataAccess>
     requires { HasOperation operation.now }
-    ensures access { is_other operation.now.op ≡ false → result ≡ access_made s.now operation.now }
+    ensures access { result ≡ access_made s.now operation.now }
     ensures other { is_other operation.now.op ≡ true → result ≡ None }
     ensures fields { IfSome result HasAccess }
 {

@@ -1,18 +1,19 @@
 //! Operations that are run.
 
-ghost use Rattle.std.specs.Prelude.{◌≡◌, ◌<◌, [], false, None};
+ghost use Rattle.std.specs.Prelude.{◌≡◌, ◌<◌, [], Bool, false, true, None};
 ghost use Rattle.arm_words.specs.Fields.{HasFields};
 ghost use Rattle.arm_core.specs.Conditions as conditions;
 ghost use Rattle.arm_core.specs.Effects.{carried_out, cost_of};
 ghost use Rattle.arm_core.specs.Meanings as meanings;
 ghost use Rattle.arm_core.specs.declared.outcomes.Stepped.TheVariants.{Cost};
 ghost use Rattle.arm_ops.specs.Meanings as ops;
-ghost use Rattle.arm_ops.specs.Meanings.{access_meaning, is_ram, op_meaning, operation_meaning, IsNear, RefusesNoneInRam};
+ghost use Rattle.arm_ops.specs.Meanings.{access_made, access_meaning, accesses_by, is_ram, op_meaning, operation_meaning, AreNear, RefusesNoneInRam};
 ghost use Rattle.arm_ops.specs.Inside.{IsPaid};
-ghost use Rattle.arm_ops.specs.Operations.{is_other, loads, HasAccess, HasOp, HasOperation};
+ghost use Rattle.arm_ops.specs.Operations.{is_decoded, is_other, loads, HasAccess, HasOp, HasOperation};
 
 use crate::accesses::{access_of, sum};
 use crate::computing::{compare_by, data_by, data_shifted_by, kept, move_by, shifted};
+use crate::lists::run_list;
 use crate::near::{Near, load_byte, load_half, load_word, store};
 use crate::operands::{LowRegister, LowShifted};
 use crate::operations::{DataAccess, Op, Operation, TransferOp};
@@ -104,7 +105,7 @@ pub(crate) fn compute<B: Bus, N: Near<B>>(arch: Arch, s: &mut Registers, bus: &m
     ensures registers { 0 < result → s.new ≡ (carried_out B.memory arch s.old (B.state bus.old) (op_meaning arch s.old op.now)).registers }
     ensures state { 0 < result → B.state bus.new ≡ (carried_out B.memory arch s.old (B.state bus.old) (op_meaning arch s.old op.now)).state }
     ensures stepped { 0 < result → (carried_out B.memory arch s.old (B.state bus.old) (op_meaning arch s.old op.now)).stepped ≡ Cost result }
-    ensures near { 0 < result → IsNear N.near (op_meaning arch s.old op.now).accesses }
+    ensures near { 0 < result → AreNear N.near (op_meaning arch s.old op.now).accesses }
     ensures same { B.identity bus.new ≡ B.identity bus.old }
 {
     match *op {
@@ -166,7 +167,7 @@ pub(crate) fn compute<B: Bus, N: Near<B>>(arch: Arch, s: &mut Registers, bus: &m
         Op::StrhNumber { rd, rn, offset } => store::<B, N>(arch, s, bus, rn, rd, sum(s, rn, offset as u32), Width::Half),
         Op::StrhRegister { rd, rn, rm } => store::<B, N>(arch, s, bus, rn, rd, sum(s, rn, s.low(rm)), Width::Half),
         Op::Literal { rd, immed } if rd < 15 => load_word::<B, N>(arch, s, bus, 15, rd, addressed_literal(s, immed)),
-        Op::Other => 0,
+        Op::Other | Op::Multiple(_) => 0,
         Op::AccessNumber { .. }
         | Op::AccessRegister { .. }
         | Op::TransferNumber(..)
@@ -178,7 +179,7 @@ pub(crate) fn compute<B: Bus, N: Near<B>>(arch: Arch, s: &mut Registers, bus: &m
 
 /// The cost of a step that was taken.
 #[inline(always)]
-fn paid(stepped: Stepped) -> u32
+pub(crate) fn paid(stepped: Stepped) -> u32
     requires { IsPaid stepped }
     ensures cost { stepped ≡ Cost result }
     ensures some { 0 < result }
@@ -198,7 +199,7 @@ fn make_near<B: Bus, N: Near<B>>(arch: Arch, s: &mut Registers, bus: &mut B, it:
     ensures registers { 0 < result → s.new ≡ (carried_out B.memory arch s.old (B.state bus.old) (access_meaning arch s.old it)).registers }
     ensures state { 0 < result → B.state bus.new ≡ (carried_out B.memory arch s.old (B.state bus.old) (access_meaning arch s.old it)).state }
     ensures stepped { 0 < result → (carried_out B.memory arch s.old (B.state bus.old) (access_meaning arch s.old it)).stepped ≡ Cost result }
-    ensures near { 0 < result → IsNear N.near (access_meaning arch s.old it).accesses }
+    ensures near { 0 < result → AreNear N.near (access_meaning arch s.old it).accesses }
     ensures same { B.identity bus.new ≡ B.identity bus.old }
 {
     let at = it.to.address;
@@ -227,7 +228,7 @@ fn run_op<B: Bus, N: Near<B>>(arch: Arch, s: &mut Registers, bus: &mut B, op: &O
     ensures registers { 0 < result → s.new ≡ (carried_out B.memory arch s.old (B.state bus.old) (op_meaning arch s.old op.now)).registers }
     ensures state { 0 < result → B.state bus.new ≡ (carried_out B.memory arch s.old (B.state bus.old) (op_meaning arch s.old op.now)).state }
     ensures stepped { 0 < result → (carried_out B.memory arch s.old (B.state bus.old) (op_meaning arch s.old op.now)).stepped ≡ Cost result }
-    ensures near { 0 < result → IsNear N.near (op_meaning arch s.old op.now).accesses }
+    ensures near { 0 < result → AreNear N.near (op_meaning arch s.old op.now).accesses }
     ensures same { B.identity bus.new ≡ B.identity bus.old }
 {
     let clocks = compute::<B, N>(arch, s, bus, op);
@@ -240,30 +241,86 @@ fn run_op<B: Bus, N: Near<B>>(arch: Arch, s: &mut Registers, bus: &mut B, op: &O
     }
 }
 
-/// Runs an operation over a bus that refuses no write of RAM, where it is one that is run here: another instruction isn't, nor an access that is
-/// neither of RAM nor a load that is near. The result is its cost in the processor's own clocks; 0 where it isn't run, and then nothing is changed.
-#[inline(always)]
-pub fn run<B: Bus, N: Near<B>>(
-    arch: Arch,
-    s: &mut Registers,
-    bus: &mut B,
-    operation: &Operation,
-) -> u32
-    requires operation { HasOperation operation.now }
-    requires ram { RefusesNoneInRam B.memory }
-    ensures none { result ≡ 0 → (s.new ≡ s.old) × (B.state bus.new ≡ B.state bus.old) }
-    ensures known { 0 < result → is_other operation.now.op ≡ false }
-    ensures registers { 0 < result → s.new
-        ≡ (carried_out B.memory arch s.old (B.state bus.old) (operation_meaning arch s.old operation.now)).registers }
-    ensures state { 0 < result → B.state bus.new
-        ≡ (carried_out B.memory arch s.old (B.state bus.old) (operation_meaning arch s.old operation.now)).state }
-    ensures stepped { 0 < result → (carried_out B.memory arch s.old (B.state bus.old) (operation_meaning arch s.old operation.now)).stepped
-        ≡ Cost result }
-    ensures near { 0 < result → IsNear N.near (operation_meaning arch s.old operation.now).accesses }
-    ensures same { B.identity bus.new ≡ B.identity bus.old }
-{
-    if !takes_effect(operation.cond, s) {
-        return skip(arch, s);
+/// Which operations are run.
+pub trait Runner {
+    /// Whether they are LDM and STM, and not those that make one access at most.
+    ghost lists: { Bool };
+
+    /// Whether they are LDM and STM.
+    fn lists() -> bool
+        ensures { result ≡ lists };
+
+    /// Runs an operation over a bus that refuses no write of RAM: one that makes one access at most, of RAM or a load that is near, or LDM or STM of
+    /// sixteen words of RAM. The result is its cost in the processor's own clocks; 0 where it isn't run, and then nothing is changed.
+    fn run<B: Bus, N: Near<B>>(
+        arch: Arch,
+        s: &mut Registers,
+        bus: &mut B,
+        operation: &Operation,
+    ) -> u32
+        requires operation { HasOperation operation.now }
+        requires ram { RefusesNoneInRam B.memory }
+        ensures none { result ≡ 0 → (s.new ≡ s.old) × (B.state bus.new ≡ B.state bus.old) }
+        ensures known { 0 < result → is_decoded operation.now.op ≡ true }
+        ensures told { lists ≡ false → 0 < result → (operation_meaning arch s.old operation.now).accesses
+            ≡ accesses_by arch s.old (access_made s.old operation.now) }
+        ensures registers { 0 < result → s.new
+            ≡ (carried_out B.memory arch s.old (B.state bus.old) (operation_meaning arch s.old operation.now)).registers }
+        ensures state { 0 < result → B.state bus.new
+            ≡ (carried_out B.memory arch s.old (B.state bus.old) (operation_meaning arch s.old operation.now)).state }
+        ensures stepped { 0 < result → (carried_out B.memory arch s.old (B.state bus.old) (operation_meaning arch s.old operation.now)).stepped
+            ≡ Cost result }
+        ensures near { 0 < result → AreNear N.near (operation_meaning arch s.old operation.now).accesses }
+        ensures same { B.identity bus.new ≡ B.identity bus.old };
+}
+
+/// Operations that make one access at most are.
+pub enum Singles {}
+
+/// LDM and STM are.
+pub enum Lists {}
+
+impl Runner for Singles {
+    ghost lists = { false };
+
+    #[inline(always)]
+    fn lists() -> bool {
+        false
     }
-    run_op::<B, N>(arch, s, bus, &operation.op)
+
+    #[inline(always)]
+    #[tactic(auto, using(crate::proofs::Laws::run_is_decoded, crate::proofs::Laws::made_accesses, crate::proofs::Laws::skipped_accesses))]
+    fn run<B: Bus, N: Near<B>>(
+        arch: Arch,
+        s: &mut Registers,
+        bus: &mut B,
+        operation: &Operation,
+    ) -> u32 {
+        if !takes_effect(operation.cond, s) {
+            return skip(arch, s);
+        }
+        run_op::<B, N>(arch, s, bus, &operation.op)
+    }
+}
+
+impl Runner for Lists {
+    ghost lists = { true };
+
+    #[inline(always)]
+    fn lists() -> bool {
+        true
+    }
+
+    #[inline(always)]
+    fn run<B: Bus, N: Near<B>>(
+        arch: Arch,
+        s: &mut Registers,
+        bus: &mut B,
+        operation: &Operation,
+    ) -> u32 {
+        if !takes_effect(operation.cond, s) {
+            return skip(arch, s);
+        }
+        run_list::<B, N>(arch, s, bus, &operation.op)
+    }
 }

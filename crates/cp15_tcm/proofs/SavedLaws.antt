@@ -6,7 +6,7 @@ use Rattle.cp15_tcm.proofs.Kept.{control_again}
 use Rattle.ds_base.proofs.Choices.{equal, is_equal}
 use Rattle.ds_state.proofs.Exact.{one_spelling, round_trips}
 use Rattle.ds_state.proofs.Kept.{kept_twice}
-use Rattle.ds_state.specs.Laws.{IsExact, StandsFor}
+use Rattle.ds_state.proofs.Standing.{IsExact, StandsFor}
 
 -- What CP15 owes of its format.
 

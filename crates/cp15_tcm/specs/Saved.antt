@@ -1,7 +1,7 @@
 use Rattle.std.specs.Prelude.{ℕ, bit_and, bit_or}
 use Rattle.cp15_tcm.specs.Registers.{Cp15State, IsCp15, control_mask, control_ones, dtcm_mask, itcm_mask}
 use Rattle.ds_state.specs.Formats.{Format, number_code, done, ◌>>=◌, one_field, keeps_mask}
-use Rattle.ds_state.specs.Laws.{OneSpelling, RoundTrips}
+use Rattle.ds_state.specs.FormatLaws.{OneSpelling, RoundTrips}
 
 -- CP15 in bytes (our choice of form): the kept bits of its three registers.
 unfoldable pub cp15_format : Format Cp15State Cp15State

@@ -88,9 +88,6 @@ le_of x y h = grind arith
 pub not_lt : (x y : ℕ) → nat_lt x y ≡ false → y ≤ x
 not_lt x y h = grind arith
 
-pub not_le : (x y : ℕ) → nat_le x y ≡ false → y < x
-not_le x y h = grind arith
-
 pub is_lt : (x y : ℕ) → x < y → nat_lt x y ≡ true
 is_lt x y h = grind (arith, h)
 
@@ -99,9 +96,6 @@ is_le x y h = grind (arith, h)
 
 pub isnt_lt : (x y : ℕ) → y ≤ x → nat_lt x y ≡ false
 isnt_lt x y h = grind (arith, h)
-
-pub isnt_le : (x y : ℕ) → y < x → nat_le x y ≡ false
-isnt_le x y h = grind (arith, h)
 
 pub lt_cases : (x y : ℕ) → ((x < y) × (nat_lt x y ≡ true)) ⊎ ((y ≤ x) × (nat_lt x y ≡ false))
 lt_cases x y = grind arith

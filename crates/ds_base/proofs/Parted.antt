@@ -1,7 +1,5 @@
-use Rattle.std.specs.Prelude.{◌||◌}
 use Rattle.std.proofs.Common.{◌≡◌, Bool, true, false, true≢false, if◌then◌else◌, refl, sym, ◌∙◌, ap}
-use Rattle.ds_base.proofs.Choices.{neither}
-use Rattle.ds_base.specs.Deeds.{pick, Parted, Done, with_left, in_turn, PassesAt, Changes}
+use Rattle.ds_base.specs.Deeds.{pick, Parted, Done, PassesAt, Changes}
 
 -- Laws of deeds, whatever the parts are.
 
@@ -64,50 +62,6 @@ module _ {I : Type 0} {F : I → Type 0} {S : Type 0} (m : Parted F S) where
         ap deed (sym (inside U P t s e w)) ∙ pass (m.graft P t s) (m.sized P t s e)
         ∙ ap (λ (x : S). (let d : Done V S = record (deed s) { left = x } in d)) (onto U P t s (deed s).left e sized w (leaves U deed s pass sized))
 
-  module _ {V W : Type 0} where
-    -- one after another
-    pub then_passes : (U : I → Bool) (first : S → Done V S) (second : V → S → Done W S) (s : S) → m.size (first s).left ≡ m.size s
-        → PassesAt m U first s → PassesAt m U (second (first s).gave) (first s).left → PassesAt m U (in_turn first second) s
-    then_passes U first second s sized one two t e =
-        ap (λ (d : Done V S). second d.gave d.left) (one t e) ∙ two t (e ∙ sym sized)
-
-    -- where neither depends on what the other changes, either may come first
-    pub commute : (f : S → Done V S) (g : S → Done W S) (s : S) (A B : I → Bool) → Changes m A s (f s).left → Changes m B s (g s).left → PassesAt m B f s → PassesAt m A g s
-        → ((f (g s).left).left ≡ (g (f s).left).left) × ((f (g s).left).gave ≡ (f s).gave) × ((g (f s).left).gave ≡ (g s).gave)
-    commute f g s A B of_f of_g pass_f pass_g =
-        let x = (f s).left in
-        let y = (g s).left in
-        let changed_g : y ≡ m.graft B y s = grafted B g of_g in
-        let changed_f : x ≡ m.graft A x s = grafted A f of_f in
-        let after_g : f y ≡ with_left (m.graft B y) (f s) = ap f changed_g ∙ pass_f y of_g.sized in
-        let after_f : g x ≡ with_left (m.graft A x) (g s) = ap g changed_f ∙ pass_g x of_f.sized in
-        let leaves_f = leaves B f s pass_f of_f.sized in
-        let leaves_g = leaves A g s pass_g of_g.sized in
-        let meets : m.graft B y x ≡ m.graft A x y =
-        m.whole (m.graft B y x) (m.graft A x y) (m.sized B y x (of_g.sized ∙ sym of_f.sized) ∙ of_f.sized ∙ sym of_g.sized ∙ sym (m.sized A x y (of_f.sized ∙ sym of_g.sized))) (λ i.
-        m.got B y x (of_g.sized ∙ sym of_f.sized) i
-        ∙ by_part i (A i) (B i) refl refl leaves_f leaves_g
-        ∙ sym (m.got A x y (of_f.sized ∙ sym of_g.sized) i)) in (
-          ap (λ (d : Done V S). d.left) after_g ∙ meets ∙ ap (λ (d : Done W S). d.left) (sym after_f),
-          ap (λ (d : Done V S). d.gave) after_g,
-          ap (λ (d : Done W S). d.gave) after_f,
-        )
-      where
-        grafted : {X : Type 0} (C : I → Bool) (h : S → Done X S) → Changes m C s (h s).left → (h s).left ≡ m.graft C (h s).left s
-        grafted {X} C h c =
-            m.whole (h s).left (m.graft C (h s).left s) (c.sized ∙ sym (m.sized C (h s).left s c.sized)) (λ i.
-            by_set i (C i) refl ∙ sym (m.got C (h s).left s c.sized i)) where
-              by_set : (i : I) (b : Bool) → C i ≡ b → m.get (h s).left i ≡ pick b (m.get (h s).left i) (m.get s i)
-              by_set i true e = refl
-              by_set i false e = c.others i e
-
-        by_part : (i : I) (a b : Bool) → A i ≡ a → B i ≡ b → ((i : I) → B i ≡ true → m.get (f s).left i ≡ m.get s i) → ((i : I) → A i ≡ true → m.get (g s).left i ≡ m.get s i)
-            → pick b (m.get (g s).left i) (m.get (f s).left i) ≡ pick a (m.get (f s).left i) (m.get (g s).left i)
-        by_part i true true ea eb lf lg = lg i ea ∙ sym (lf i eb)
-        by_part i true false ea eb lf lg = refl
-        by_part i false true ea eb lf lg = refl
-        by_part i false false ea eb lf lg = of_f.others i ea ∙ sym (of_g.others i eb)
-
 -- a part of one set isn't in the other
 pub not_there : {I : Type 0} (P Q : I → Bool) (i : I) → Apart P Q → Q i ≡ true → P i ≡ false
 not_there P Q i apart h = by_it (P i) refl where
@@ -115,19 +69,7 @@ not_there P Q i apart h = by_it (P i) refl where
   by_it true e = absurd (true≢false (sym h ∙ apart i e))
   by_it false e = e
 
-abbrev pub Both : {I : Type 0} → (I → Bool) → (I → Bool) → I → Bool
-Both {I} P Q i = P i || Q i
-
-pub apart_both : {I : Type 0} (P A B : I → Bool) → Apart P (Both A B) → Apart P A × Apart P B
-apart_both P A B h = (λ i e. (neither (A i) (B i) (h i e)).0, λ i e. (neither (A i) (B i) (h i e)).1)
-
 module _ {I : Type 0} {F : I → Type 0} {S : Type 0} (m : Parted F S) where
-  pub then_changes : (A B : I → Bool) (s x y : S) → Changes m A s x → Changes m B x y → Changes m (Both A B) s y
-  then_changes A B s x y one two = record {
-    sized = two.sized ∙ one.sized;
-    others = λ i h. (let k = neither (A i) (B i) h in two.others i k.1 ∙ one.others i k.0);
-  }
-
   -- with the changed parts in it, it is the state before
   pub grafted : (A : I → Bool) (s x : S) → Changes m A s x → x ≡ m.graft A x s
   grafted A s x c = m.whole x (m.graft A x s) (c.sized ∙ sym (m.sized A x s c.sized)) (λ i. by_set i (A i) refl ∙ sym (m.got A x s c.sized i)) where
@@ -147,6 +89,3 @@ module _ {I : Type 0} {F : I → Type 0} {S : Type 0} (m : Parted F S) where
     others = λ i h. ap (λ (y : S). m.get y i) (sym e) ∙ m.got (λ j. if A j then false else true) s x (sym sized) i
         ∙ ap (λ (b : Bool). pick (if b then false else true) (m.get s i) (m.get x i)) h;
   }
-
-  pub changes_none : (A : I → Bool) (s : S) → Changes m A s s
-  changes_none A s = record { sized = refl; others = λ i h. refl }

@@ -8,6 +8,7 @@
 mod digits;
 mod interrupts;
 mod keys;
+mod knowing;
 mod left_out;
 mod memories;
 mod processors;

@@ -1,8 +1,8 @@
 use Rattle.std.proofs.Common.{ℕ, ◌≡◌, ◌⊎◌, inl, inr, Bool, true, false, List, [], ◌∷◌, ◌++◌, Option, Some, None, refl, ap}
 use Rattle.ds_card.specs.Cards.{CardState, is_busy}
-use Rattle.ds_card.specs.Transfers.{BeginsInOrder, CardGoesOn, CardPasses, and_taken}
-use Rattle.ds_card.specs.Transfers.CardGoesOn.{stays_so, goes_further}
-use Rattle.ds_card.specs.Transfers.CardPasses.{passed_none, passed_one}
+use Rattle.ds_card.specs.TransferLaws.{BeginsInOrder, CardGoesOn, CardPasses, and_taken}
+use Rattle.ds_card.specs.TransferLaws.CardGoesOn.{stays_so, goes_further}
+use Rattle.ds_card.specs.TransferLaws.CardPasses.{passed_none, passed_one}
 use Rattle.ds_card.proofs.InOrder.{in_order}
 
 -- What a card passes through is first the transfer that is busy, to its end, and then what follows.

@@ -10,9 +10,9 @@ use Rattle.ds_base.specs.declared.ticks.Tick.{Tick}
 use Rattle.ds_base.proofs.Choices.{equal, unequal}
 use Rattle.ds_card.specs.CardPorts.{block_words, data_port_at}
 use Rattle.ds_card.specs.Cards.{CardState, IsCard, IsUnderWay, transfer_begun, card_after_read, card_taken, card_word, card_written, next_word_after, is_busy, is_last_word, is_whole_word, ready_word, same_proc, taken_by}
-use Rattle.ds_card.specs.Transfers.{CardGoesOn, CardHappens, TransfersInOrder, and_taken, transfer_words}
-use Rattle.ds_card.specs.Transfers.CardHappens.{wrote, was_read, came}
-use Rattle.ds_card.specs.Transfers.CardGoesOn.{stays_so, goes_further}
+use Rattle.ds_card.specs.TransferLaws.{CardGoesOn, CardHappens, TransfersInOrder, and_taken, transfer_words}
+use Rattle.ds_card.specs.TransferLaws.CardHappens.{wrote, was_read, came}
+use Rattle.ds_card.specs.TransferLaws.CardGoesOn.{stays_so, goes_further}
 use Rattle.ds_card.specs.declared.cards.NextWord.TheVariants.{Ready}
 use Rattle.ds_card.specs.declared.cards.Transfer.{Transfer}
 

@@ -9,16 +9,16 @@ use Rattle.ds_base.specs.declared.memories.Width.TheVariants.{Word}
 use Rattle.ds_card.proofs.InOrder.{Stands, StandsIn, one_follows}
 use Rattle.ds_card.specs.CardPorts.{block_words, words_of_size}
 use Rattle.ds_card.specs.Cards.{CardState, IsCard, IsUnderWay, card_due, card_starter, card_taken, card_word, is_starting, start_refusal, next_due, ready_word, is_known}
-use Rattle.ds_card.specs.Saved.{CardsAreSaved, IsCardAt, HasItsWord, KeepsAuxspicnt, card_format, card_due_by, due_where, keeps_auxspicnt, keeps_romctrl, next_numbered, numbered_starter, starter_number, starts_by, taken_of, takes_by, transfer_numbered}
-use Rattle.ds_card.specs.Transfers.{CardHappens}
-use Rattle.ds_card.specs.Transfers.CardHappens.{wrote, was_read, came}
+use Rattle.ds_card.specs.Saved.{CardsAreSaved, IsCardAt, HasItsWord, card_format, card_due_by, due_where, keeps_romctrl, next_numbered, numbered_starter, starter_number, starts_by, taken_of, takes_by, transfer_numbered}
+use Rattle.ds_card.specs.TransferLaws.{CardHappens}
+use Rattle.ds_card.specs.TransferLaws.CardHappens.{wrote, was_read, came}
 use Rattle.ds_card.specs.declared.cards.NextWord.{NextWord}
 use Rattle.ds_card.specs.declared.cards.NextWord.TheVariants.{Due, Ready}
 use Rattle.ds_card.specs.declared.cards.Transfer.{Transfer}
 use Rattle.ds_state.proofs.Exact.{one_spelling, round_trips}
 use Rattle.ds_state.proofs.Soon.{soon_fits}
 use Rattle.ds_state.specs.Formats.{soon}
-use Rattle.ds_state.specs.Laws.{IsExact, StandsFor}
+use Rattle.ds_state.proofs.Standing.{IsExact, StandsFor}
 
 -- What the card owes of its format.
 
@@ -113,10 +113,6 @@ ready_while words taken word (inr none) = absurd (some_none none.2) where
   some_none : ◌≡◌ {A = Option ℕ} (Some word) None → ⊥
   some_none h = cc
 
-small_starter : (starter : Proc) → starter_number (Some starter) < 256
-small_starter Nine = omega arith
-small_starter Seven = omega arith
-
 holds_some : (file : List ℕ) (at : ℕ) (s : CardState) (starter : Proc) (taken : ℕ) (next : NextWord)
     → is_known (slice_index_or s.command 0 0) ≡ true → Left (block_words s.romctrl) taken (ready_word next)
     → HasItsWord file s (Some (record { starter = starter; taken = taken; next = next }))
@@ -157,9 +153,6 @@ holds_some file at s Seven taken (Ready ready) known left word = record {
 holds_by : (file : List ℕ) (at : ℕ) (s : CardState) (t : Option Transfer) → IsUnderWay s t → HasItsWord file s t → HoldsOf file at s (with_transfer s t)
 holds_by file at s None under word = record { starter = refl; taken = refl; due = refl; small = omega arith; few = omega arith; again = refl }
 holds_by file at s (Some t) under word = holds_some file at s t.starter t.taken t.next under.0 under.1 word
-
-auxspicnt_holds : (at : ℕ) (port : List ℕ) → KeepsAuxspicnt port → keeps_auxspicnt at port ≡ true
-auxspicnt_holds at port keeps = keeps.kept
 
 romctrl_holds : (at : ℕ) (s : CardState) → IsCard s → keeps_romctrl at s.romctrl ≡ true
 romctrl_holds at s is = (let ready = is.ready_bit in let busy = is.busy_bit in grind (arith, rules, ready, busy))

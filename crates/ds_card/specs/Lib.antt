@@ -1,4 +1,4 @@
 pub mod CardPorts
 pub mod Cards
 pub mod Saved
-pub mod Transfers
+pub mod TransferLaws

@@ -4,12 +4,12 @@ use Rattle.ds_base.specs.declared.processors.Proc.{Proc}
 use Rattle.ds_base.specs.declared.processors.Proc.TheVariants.{Nine, Seven}
 use Rattle.ds_card.specs.CardPorts.{block_words}
 use Rattle.ds_card.specs.Cards.{CardState, IsCard, card_due, card_starter, card_word, is_known, ready_word}
-use Rattle.ds_card.specs.Transfers.{CardHappens}
+use Rattle.ds_card.specs.TransferLaws.{CardHappens}
 use Rattle.ds_card.specs.declared.cards.NextWord.{NextWord}
 use Rattle.ds_card.specs.declared.cards.NextWord.TheVariants.{Due, Ready}
 use Rattle.ds_card.specs.declared.cards.Transfer.{Transfer}
 use Rattle.ds_state.specs.Formats.{Format, number_code, tick, array, done, ◌>>=◌, one_field, any, soon}
-use Rattle.ds_state.specs.Laws.{OneSpelling, RoundTrips}
+use Rattle.ds_state.specs.FormatLaws.{OneSpelling, RoundTrips}
 
 -- The card in bytes (our choice of form): its registers' bytes as they are kept, and the transfer. A word that is ready has no bytes of its own:
 -- the cartridge's file has it.

@@ -12,7 +12,7 @@ mod saved;
 
 use crate::ports;
 use crate::serials::Serial;
-use ds_base::{Interrupt, LeftKind, Proc, Raised, Stop, Tick, Width};
+use ds_base::{Interrupt, LeftKind, Proc, Raised, Stop, Tick, Width, known};
 pub use saved::saved_laws;
 use std::marker::Model;
 
@@ -296,8 +296,8 @@ impl Card {
         ensures nine { KeepsAuxspicnt self.now.nine }
         ensures seven { KeepsAuxspicnt self.now.seven }
     {
-        self.nine.laws();
-        self.seven.laws();
+        known!(self.nine.laws());
+        known!(self.seven.laws());
     }
 
     fn write_ports(&mut self, proc: Proc, at: u32, width: Width, value: u32)

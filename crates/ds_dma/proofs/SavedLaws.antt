@@ -16,7 +16,7 @@ use Rattle.ds_dma.proofs.Fours.{four_are}
 use Rattle.ds_state.proofs.Earlier.{earlier_again, earlier_fits, earlier_holds, earlier_made}
 use Rattle.ds_state.proofs.Exact.{one_spelling, round_trips}
 use Rattle.ds_state.specs.Formats.{earlier_tick, tick_or_0, tick_where, used_where, bytes_written}
-use Rattle.ds_state.specs.Laws.{IsExact, StandsFor}
+use Rattle.ds_state.proofs.Standing.{IsExact, StandsFor}
 
 -- What the channels owe of their formats.
 

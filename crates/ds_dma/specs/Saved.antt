@@ -8,7 +8,7 @@ use Rattle.ds_dma.specs.States.{DmaState, IsDma, any_runs, channel_at, dma_due, 
 use Rattle.ds_dma.specs.declared.channels.LastUnit.{LastUnit}
 use Rattle.ds_dma.specs.declared.dma.DmaDue.{DmaDue}
 use Rattle.ds_state.specs.Formats.{Format, number_code, flag_code, done, ◌>>=◌, one_field, its, earlier_tick, keeps_mask, tick_or_0, tick_where, used_where, bytes_written}
-use Rattle.ds_state.specs.Laws.{OneSpelling, RoundTrips}
+use Rattle.ds_state.specs.FormatLaws.{OneSpelling, RoundTrips}
 
 -- The channels in bytes (our choice of form).
 

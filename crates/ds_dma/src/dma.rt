@@ -14,7 +14,7 @@ mod saved;
 use crate::channels::{Channel, LastUnit, Unit};
 use crate::controls::{Cause, DmaPort};
 use crate::{channels, controls};
-use ds_base::{Proc, Stop, Tick};
+use ds_base::{Proc, Stop, Tick, known};
 pub use saved::saved_laws;
 use std::marker::Model;
 
@@ -126,7 +126,7 @@ impl Dma {
         ensures schedule { AreReadyLater now self.old → (each : ℕ) → each < 4
             → Reschedules now (channel_due self.old each) (channel_due self.new each) }
     {
-        self.laws();
+        known!(self.laws());
         let old = self.channel(channel);
         let proc = self.proc;
         match channels::refused(proc, channel, old, port, value) {
@@ -148,7 +148,7 @@ impl Dma {
         ensures later { AreReadyLater now self.old → AreReadyLater now self.new }
         ensures schedule { (each : ℕ) → each < 4 → Reschedules now (channel_due self.old each) (channel_due self.new each) }
     {
-        self.laws();
+        known!(self.laws());
         let proc = self.proc;
         self.channels = [
             channels::after(proc, cause, now, self.channel(0)),
@@ -172,7 +172,7 @@ impl Dma {
         ensures waits { result ≡ awaits_geometry self.now }
         ensures settled { result ≡ false → (now : Tick) → dma_triggered self.now Geometry now ≡ self.now }
     {
-        self.laws();
+        known!(self.laws());
         self.awaits(Cause::Geometry, 0)
             || self.awaits(Cause::Geometry, 1)
             || self.awaits(Cause::Geometry, 2)
@@ -221,7 +221,7 @@ impl Dma {
         ensures unit { result ≡ unit_of (due_channel self.now) 0 }
         ensures first { (rest : List DmaUnit) × (plan_of (due_channel self.now) ≡ result ∷ rest) }
     {
-        self.laws();
+        known!(self.laws());
         channels::first(self.channel(self.least()))
     }
 
@@ -237,7 +237,7 @@ impl Dma {
         ensures later { AreReadyLater now self.new }
         ensures schedule { (each : ℕ) → each < 4 → Reschedules now (channel_due self.old each) (channel_due self.new each) }
     {
-        self.laws();
+        known!(self.laws());
         let which = self.least();
         let channel = self.channel(which);
         let bits = channels::raised(which, channel);

@@ -68,3 +68,7 @@ entry_aligned file proc h = equal (image_entry file proc % 4) 0 (both _ _ (rule_
 
 pub entry_lies : (file : List ℕ) (proc : Proc) → IsAccepted file → ImageLies proc (image_entry file proc) 0
 entry_lies file proc h = lies proc (image_entry file proc) 0 (both _ _ (rule_facts file proc h).2).1
+
+-- its image goes where it may
+pub image_goes : (file : List ℕ) (proc : Proc) → IsAccepted file → ImageLies proc (image_place file proc) (image_length file proc)
+image_goes file proc h = lies proc (image_place file proc) (image_length file proc) (rule_facts file proc h).1

@@ -10,7 +10,7 @@ use Rattle.ds_ipc.specs.Sides.{IsSide, Side}
 use Rattle.ds_state.proofs.Exact.{one_spelling, round_trips}
 use Rattle.ds_state.proofs.Masks.{kept_top}
 use Rattle.ds_state.specs.Formats.{word_format}
-use Rattle.ds_state.specs.Laws.{IsExact, StandsFor}
+use Rattle.ds_state.proofs.Standing.{IsExact, StandsFor}
 
 -- What both sides owe of their formats.
 

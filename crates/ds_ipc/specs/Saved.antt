@@ -3,7 +3,7 @@ use Rattle.ds_base.specs.Bits.{bit, flag}
 use Rattle.ds_ipc.specs.Ipcs.{AreSides, IpcState}
 use Rattle.ds_ipc.specs.Sides.{Side, control_kept}
 use Rattle.ds_state.specs.Formats.{Format, number_code, flag_code, done, ◌>>=◌, one_field, its, each, any, at_most, keeps_mask, word_format}
-use Rattle.ds_state.specs.Laws.{OneSpelling, RoundTrips}
+use Rattle.ds_state.specs.FormatLaws.{OneSpelling, RoundTrips}
 
 -- Both sides in bytes (our choice of form): a side stands with the words that wait for it, which the other side sent.
 

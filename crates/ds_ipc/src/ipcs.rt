@@ -7,7 +7,7 @@ ghost use Rattle.ds_ipc.specs.Ipcs.{AreSides, side_of, ipc_at_boot, ipc_sync_wor
 
 use crate::sides;
 use crate::sides::{Side, Taken};
-use ds_base::{Proc, Raised};
+use ds_base::{Proc, Raised, known};
 use std::alloc::{AllocError, Global};
 use std::marker::Model;
 
@@ -169,7 +169,7 @@ impl Ipc {
     pub fn laws(&self)
         ensures { AreSides self.now }
     {
-        self.nine.laws();
-        self.seven.laws();
+        known!(self.nine.laws());
+        known!(self.seven.laws());
     }
 }

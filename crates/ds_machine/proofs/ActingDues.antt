@@ -1,25 +1,8 @@
-use Rattle.std.proofs.Common.{ℕ, ◌≡◌, ◌≢◌, ◌<◌, ◌⊎◌, inl, inr, Bool, true, false, if◌then◌else◌, List, [], ◌∷◌, ◌++◌, map, length, Option, Some, None, refl, sym, ◌∙◌, ap, arith}
-use Rattle.std.proofs.lemmas.Option.{none-some}
-use Rattle.ds_base.proofs.Choices.{same_or_not}
-use Rattle.ds_base.specs.declared.processors.Proc.{Proc}
-use Rattle.ds_base.specs.declared.processors.Proc.TheVariants.{Nine, Seven}
-use Rattle.ds_base.specs.declared.ticks.Due.{Due}
-use Rattle.ds_base.specs.declared.ticks.Tick.{Tick}
-use Rattle.video2d.specs.Scans.{scan_due_tick}
-use Rattle.ds_ports.specs.Acting.{is_quiet}
-use Rattle.ds_runs.specs.Actors.{actor_of, actors}
-use Rattle.ds_runs.specs.Order.{due_with_rank, earlier, first_from}
-use Rattle.ds_runs.specs.Runs.{IsLeast, due_at}
+use Rattle.ds_machine.proofs.Words.{ℕ, ◌≡◌, ◌≢◌, ◌<◌, ◌⊎◌, inl, inr, Bool, true, false, if◌then◌else◌, List, [], ◌∷◌, ◌++◌, map, length, Option, Some}
+use Rattle.ds_machine.proofs.Words.{None, refl, sym, ◌∙◌, ap, arith, none-some, same_or_not, Proc, Nine, Seven, Due, Tick, scan_due_tick, is_quiet}
+use Rattle.ds_machine.proofs.Words.{actor_of, actors, due_with_rank, earlier, first_from, IsLeast, due_at, Geometry, due_of_actor, actors_differ}
+use Rattle.ds_machine.proofs.Words.{within, acting_due, acting_dues, acting_events_of, rank_of, due_by, dues_of, processor_due, MachineState}
 use Rattle.ds_runs.specs.declared.actors.Actor as actor
-use Rattle.ds_runs.specs.declared.actors.Actor.TheVariants.{Geometry}
-use Rattle.ds_runs.proofs.ActorTable.{due_of_actor}
-use Rattle.ds_runs.proofs.AllActors.{actors_differ}
-use Rattle.ds_runs.proofs.Lists.{within}
-use Rattle.ds_machine.specs.Acting.{acting_due, acting_dues}
-use Rattle.ds_machine.specs.NextEvents.{acting_events_of}
-use Rattle.ds_machine.specs.Private.{rank_of}
-use Rattle.ds_machine.specs.Reference.{due_by, dues_of, processor_due}
-use Rattle.ds_machine.specs.States.{MachineState}
 use Rattle.ds_machine.proofs.DueTicks.{due_of_rank, least_by_parts, low_rank}
 
 -- When the actors act: as a list and by actors, and beside when all are due.

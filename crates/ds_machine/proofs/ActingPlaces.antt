@@ -1,23 +1,9 @@
-use Rattle.std.proofs.Common.{ℕ, ◌≡◌, ◌≢◌, ◌<◌, ◌≤◌, ◌+◌, ◌-◌, ◌*◌, ◌⊎◌, inl, inr, true, List, [], Option, Some, sym, ◌∙◌, ap, subst, arith}
-use Rattle.std.proofs.lemmas.Option.{none-some}
-use Rattle.ds_base.proofs.Choices.{same_or_not, true_or_false}
-use Rattle.ds_base.specs.declared.processors.Proc.{Proc}
-use Rattle.ds_base.specs.declared.processors.Proc.TheVariants.{Nine, Seven}
-use Rattle.ds_base.specs.declared.ticks.Tick.{Tick}
-use Rattle.ds_ports.specs.Acting.{is_quiet}
-use Rattle.ds_runs.specs.Actors.{actor_of}
-use Rattle.ds_runs.specs.Runs.{IsLeast, Makes, due_at}
-use Rattle.ds_runs.specs.Schedules.{places_remaining}
-use Rattle.ds_runs.specs.declared.actors.Actor.TheVariants.{Geometry}
-use Rattle.ds_runs.proofs.AllActors.{actors_differ, is_numbered}
-use Rattle.ds_runs.proofs.Lists.{is_later}
+use Rattle.ds_machine.proofs.Words.{ℕ, ◌≡◌, ◌≢◌, ◌<◌, ◌≤◌, ◌+◌, ◌-◌, ◌*◌, ◌⊎◌, inl, inr, true, List, [], Option, Some, sym, ◌∙◌, ap, subst, arith}
+use Rattle.ds_machine.proofs.Words.{none-some, same_or_not, true_or_false, Proc, Nine, Seven, Tick, is_quiet, actor_of, IsLeast, Makes, due_at}
+use Rattle.ds_machine.proofs.Words.{Geometry, actors_differ, is_numbered, is_later, acting_due, acting_dues, ActsUnobserving, IsAhead, rank_of, Shown}
+use Rattle.ds_machine.proofs.Words.{due_by, reference_step, IsSound, MachineState, same_makes}
+use Rattle.ds_runs.specs.ScheduleLaws.{places_remaining}
 use Rattle.ds_runs.proofs.Places.{remaining_at, remaining_below}
-use Rattle.ds_machine.specs.Acting.{acting_due, acting_dues}
-use Rattle.ds_machine.specs.Lagging.{ActsUnobserving}
-use Rattle.ds_machine.specs.Private.{IsAhead, rank_of}
-use Rattle.ds_machine.specs.Reference.{Shown, due_by, reference_step}
-use Rattle.ds_machine.specs.Sound.{IsSound}
-use Rattle.ds_machine.specs.States.{MachineState}
 use Rattle.ds_machine.proofs.ActingDues.{acting_low, acting_of_rank, acts_where_due, due_where_acts, loud_by}
 use Rattle.ds_machine.proofs.ActingSteps.{Acted, CaughtUp, caught_steps, caught_up}
 use Rattle.ds_machine.proofs.DueTicks.{due_of_rank}
@@ -27,7 +13,6 @@ use Rattle.ds_machine.proofs.MachineSchedule.{Steps, owes_as}
 use Rattle.ds_machine.proofs.QuietStays.{quiet_next}
 use Rattle.ds_machine.proofs.StepsAhead.{StepsAhead, harmless_goes}
 use Rattle.ds_machine.proofs.StepsMay.{MayThen}
-use Rattle.ds_runs.proofs.RunLaws.{same_makes}
 
 -- The places of acting actors in the order of steps: a step of a turn leaves no more of them, and that of the least fewer.
 

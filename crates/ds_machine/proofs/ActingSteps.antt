@@ -1,33 +1,14 @@
-use Rattle.std.proofs.Common.{ℕ, ◌≡◌, ◌<◌, ◌≤◌, ◌^◌, ◌⊎◌, inl, inr, Bool, true, false, true≢false, List, ◌++◌, Option, Some, refl, sym, ◌∙◌, ap, subst, arith, []}
-use Rattle.std.specs.Prelude.{◌↔◌}
-use Rattle.std.specs.List.{last_or}
-use Rattle.std.proofs.lemmas.Option.{none-some}
-use Rattle.ds_base.proofs.Choices.{same_or_not, true_or_false}
-use Rattle.arm9_exec.specs.Statuses.{HasNineStatuses}
-use Rattle.arm_core.specs.Statuses.{HasStatuses}
-use Rattle.ds_base.specs.declared.left_out.LeftOut.{LeftOut}
-use Rattle.ds_base.specs.declared.processors.Arch.TheVariants.{V4}
-use Rattle.ds_base.specs.declared.processors.Proc.{Proc}
-use Rattle.ds_base.specs.declared.processors.Proc.TheVariants.{Nine, Seven}
-use Rattle.ds_base.specs.declared.ticks.Tick.{Tick}
-use Rattle.ds_runs.specs.Actors.{actor_of}
-use Rattle.ds_runs.specs.Runs.{Ending, IsLeast, MachineStep, Makes, Runs, Stopped, Stops, due_at}
+use Rattle.ds_machine.proofs.Words.{ℕ, ◌≡◌, ◌<◌, ◌≤◌, ◌^◌, ◌⊎◌, inl, inr, Bool, true, false, true≢false, List, ◌++◌, Option, Some, refl, sym, ◌∙◌, ap}
+use Rattle.ds_machine.proofs.Words.{subst, arith, [], ◌↔◌, last_or, none-some, same_or_not, true_or_false, HasNineStatuses, HasStatuses, LeftOut, V4}
+use Rattle.ds_machine.proofs.Words.{Proc, Nine, Seven, Tick, actor_of, Ending, IsLeast, MachineStep, Makes, Runs, Stops, due_at, actors_differ}
+use Rattle.ds_machine.proofs.Words.{one_step, same_makes, not_both, is_quiet, acting_dues, FollowFrames, FollowLists, WholeFrame, frames_shown}
+use Rattle.ds_machine.proofs.Words.{last_frame, last_lists, lists_shown, ActsUnobserving, CatchesUpFor, CatchesUpIf, ComesBeforeAll}
+use Rattle.ds_machine.proofs.Words.{StepsBeforeGeometry, TakesGeometry, no_geometry, observes_by, IsAhead, rank_of, Shown, dues_of, processor_due}
+use Rattle.ds_machine.proofs.Words.{reference, reference_step, IsSound, MachineState, NineState, SevenState, counts_of, HasBothStatuses, left_by}
+use Rattle.ds_machine.proofs.Words.{processor_of, MayAct, MayStep, Swapped}
+use Rattle.ds_runs.specs.Runs.{Stopped}
 use Rattle.ds_runs.specs.Runs as runs
-use Rattle.ds_runs.proofs.AllActors.{actors_differ}
-use Rattle.ds_runs.proofs.Lags.{one_step}
-use Rattle.ds_runs.proofs.RunLaws.{same_makes, not_both}
-use Rattle.ds_ports.specs.Acting.{is_quiet}
-use Rattle.ds_machine.specs.Acting.{acting_dues}
-use Rattle.ds_machine.specs.Frames.{FollowFrames, FollowLists, WholeFrame, frames_shown, last_frame, last_lists, lists_shown}
-use Rattle.ds_machine.specs.Lagging.{ActsUnobserving, CatchesUpFor, CatchesUpIf, ComesBeforeAll, StepsBeforeGeometry, TakesGeometry, no_geometry, observes_by}
-use Rattle.ds_machine.specs.Private.{IsAhead, rank_of}
-use Rattle.ds_machine.specs.Reference.{Shown, dues_of, processor_due, reference, reference_step}
-use Rattle.ds_machine.specs.Sound.{IsSound}
-use Rattle.ds_machine.specs.States.{MachineState, NineState, SevenState, counts_of}
-use Rattle.ds_machine.specs.Statuses.{HasBothStatuses, left_by}
-use Rattle.ds_machine.specs.Steps.{processor_of}
-use Rattle.ds_machine.specs.TurnSteps.{ActingMayStep, ActingRuns, ActingStops, MayAct, MayStep}
-use Rattle.gx_geometry.specs.States.{Swapped}
+use Rattle.ds_machine.specs.TurnLaws.{ActingMayStep, ActingRuns, ActingStops}
 use Rattle.ds_machine.proofs.ActingDues.{acting_low, acting_of_rank, due_where_acts, loud_same}
 use Rattle.ds_machine.proofs.AheadRuns.{ahead_runs, ahead_steps}
 use Rattle.ds_machine.proofs.CatchingUp.{CaughtSo, catching_up_runs, caught_least, caught_so, comes_first}

@@ -1,11 +1,6 @@
-use Rattle.std.proofs.Common.{refl}
-use Rattle.ds_base.specs.declared.processors.Proc.{Proc}
+use Rattle.ds_machine.proofs.Words.{refl, Proc, RunsAhead, IsAhead, rank_of, reference, IsSound, MachineState, processor_of, tick_of}
 use Rattle.ds_runs.proofs.Ahead.{ahead_agrees}
-use Rattle.ds_machine.specs.Private.{AheadRuns, AheadSteps, IsAhead, RunsAhead, rank_of}
-use Rattle.ds_machine.specs.Reference.{reference}
-use Rattle.ds_machine.specs.Sound.{IsSound}
-use Rattle.ds_machine.specs.States.{MachineState}
-use Rattle.ds_machine.specs.Steps.{processor_of, tick_of}
+use Rattle.ds_machine.specs.PrivateLaws.{AheadRuns, AheadSteps}
 use Rattle.ds_machine.proofs.InnerLaw.{private_is_harmless}
 use Rattle.ds_machine.proofs.OuterLaw.{may_run_ahead}
 use Rattle.ds_machine.proofs.StepsAhead.{ahead_sound, harmless_goes}

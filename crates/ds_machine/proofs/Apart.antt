@@ -1,15 +1,10 @@
-use Rattle.std.proofs.Common.{ℕ, ◌≡◌, ◌≢◌, Bool, true, false, true≢false, List, [], ◌∷◌, refl, sym, ◌∙◌, ap}
+use Rattle.ds_machine.proofs.Words.{ℕ, ◌≡◌, ◌≢◌, Bool, true, false, true≢false, List, [], ◌∷◌, refl, sym, ap, Nine, Seven, Video, Dma, Processor}
+use Rattle.ds_machine.proofs.Words.{with_seven_part, Fences, step_by, MachineState, SevenState, left_by, Cp15, DueNine, DueSeven, OwnRam, PartSet}
+use Rattle.ds_machine.proofs.Words.{RegistersNine, RegistersSeven, StepsNine, StepsSeven, machine_graft, step_with, untouched_by}
 use Rattle.ds_base.specs.Deeds.{pick}
-use Rattle.ds_base.specs.declared.processors.Proc.TheVariants.{Nine, Seven}
 use Rattle.ds_runs.specs.declared.actors.Actor as actor
-use Rattle.ds_runs.specs.declared.actors.Actor.TheVariants.{Video, Geometry, Dma, Processor}
-use Rattle.ds_machine.specs.Apart.{NinePart, with_nine_part, with_seven_part}
-use Rattle.ds_machine.specs.Hearing.{Fences}
-use Rattle.ds_machine.specs.Reference.{past_stall, step_by}
-use Rattle.ds_machine.specs.States.{MachineState, NineState, SevenState}
-use Rattle.ds_machine.specs.Statuses.{left_by}
-use Rattle.ds_machine.specs.Touched.{Cp15, Dtcm, DueNine, DueSeven, Itcm, MachinePart, OamRam, OwnRam, PaletteRam, PartSet, RegistersNine, RegistersSeven, StepsNine, StepsSeven, machine_graft, step_with, untouched_by, with_nine_due}
-use Rattle.ds_machine.proofs.Touched.{comes_to_same, each_touches, geometry_delays}
+use Rattle.ds_machine.specs.Touched.{Dtcm, Itcm, MachinePart}
+use Rattle.ds_machine.proofs.Touched.{comes_to_same, each_touches}
 
 -- What follows from the table of a processor's own part: an actor whose rows have none of it neither changes it nor depends on it.
 
@@ -26,9 +21,6 @@ parts_of_seven = RegistersSeven ∷ DueSeven ∷ StepsSeven ∷ OwnRam ∷ []
 
 abbrev pub parts_of_nine : List MachinePart
 parts_of_nine = RegistersNine ∷ DueNine ∷ StepsNine ∷ Cp15 ∷ Itcm ∷ Dtcm ∷ []
-
-abbrev pub with_nine_state : NineState → MachineState → MachineState
-with_nine_state own m = record m { nine = own }
 
 module _ (rank : ℕ) (a : actor.Actor) (s : MachineState) where
   abbrev P : PartSet
@@ -62,21 +54,6 @@ module _ (rank : ℕ) (a : actor.Actor) (s : MachineState) where
     dtcm = picked (P.rest Dtcm) own.nine.dtcm left.nine.dtcm h.1.1.1.1.1.0 i;
   }
 
-  pub leave_nine_state : (own : NineState) → AreIn P parts_of_nine → step_by rank a (with_nine_state own s) ≡ step_with (with_nine_state own) (step_by rank a s)
-  leave_nine_state own h =
-      comes_to_same rank a s (with_nine_state own) (record { shared = refl; vram = refl }) (λ left. (let there = with_nine_state own s in
-      λ i. record (machine_graft P there left) { nine = nine_goes there left h i }))
-
-  -- and with them
-  pub leave_nine : (own : NinePart) → AreIn P parts_of_nine → AreIn P (PaletteRam ∷ OamRam ∷ []) → step_by rank a (with_nine_part own s) ≡ step_with (with_nine_part own) (step_by rank a s)
-  leave_nine own h k =
-      comes_to_same rank a s (with_nine_part own) (record { shared = refl; vram = refl }) (λ left. (let there = with_nine_part own s in
-      λ i. record (machine_graft P there left) {
-        nine = nine_goes there left h i;
-        palette = picked (P.rest PaletteRam) own.palette left.palette k.0 i;
-        oam = picked (P.rest OamRam) own.oam left.oam k.1.0 i;
-      }))
-
 -- whoever is neither ARM7 nor in its fence has none of its part in its rows
 pub none_of_seven : (a : actor.Actor) (s : MachineState) → a ≢ Processor Seven → (Fences a Seven s → ⊥) → AreIn (untouched_by a s) parts_of_seven
 none_of_seven (Dma Seven channel) s other apart = absurd (apart refl)
@@ -85,32 +62,8 @@ none_of_seven (Dma Nine channel) s other apart = (refl, (refl, (refl, (refl, tt)
 none_of_seven (Processor Nine) s other apart = (refl, (refl, (refl, (refl, tt))))
 none_of_seven _ s other apart = (refl, (refl, (refl, (refl, tt))))
 
--- and whoever is neither ARM9, a channel of it, the display nor geometry, none of ARM9's
-pub none_of_nine : (a : actor.Actor) (s : MachineState) → a ≢ Processor Nine → ((channel : ℕ) → a ≢ Dma Nine channel) → a ≢ Video → a ≢ Geometry
-    → AreIn (untouched_by a s) parts_of_nine × AreIn (untouched_by a s) (PaletteRam ∷ OamRam ∷ [])
-none_of_nine (Processor Nine) s other apart display geometry = absurd (other refl)
-none_of_nine (Dma Nine channel) s other apart display geometry = absurd (apart channel refl)
-none_of_nine Video s other apart display geometry = absurd (display refl)
-none_of_nine Geometry s other apart display geometry = absurd (geometry refl)
-none_of_nine (Processor Seven) s other apart display geometry = ((refl, (refl, (refl, (refl, (refl, (refl, tt)))))), (refl, (refl, tt)))
-none_of_nine (Dma Seven channel) s other apart display geometry = ((refl, (refl, (refl, (refl, (refl, (refl, tt)))))), (refl, (refl, tt)))
-none_of_nine _ s other apart display geometry = ((refl, (refl, (refl, (refl, (refl, (refl, tt)))))), (refl, (refl, tt)))
-
--- the display depends on no other part of ARM9's than palettes and OAM, and leaves all of it
-pub display_same : (rank : ℕ) (own : NineState) (s : MachineState) → step_by rank Video (with_nine_state own s) ≡ step_with (with_nine_state own) (step_by rank Video s)
-display_same rank own s = leave_nine_state rank Video s own (refl, (refl, (refl, (refl, (refl, (refl, tt))))))
-
 pub display_leaves : (rank : ℕ) (s : MachineState)
     → (let left = left_by (step_by rank Video s) in (left.nine ≡ s.nine) × (left.palette ≡ s.palette) × (left.oam ≡ s.oam))
 display_leaves rank s =
     let e = sym (each_touches rank Video s).leaves in
     (ap (λ (m : MachineState). m.nine) e, ap (λ (m : MachineState). m.palette) e, ap (λ (m : MachineState). m.oam) e)
-
--- geometry changes the tick at which ARM9 is due, and no more of it
-pub geometry_leaves_nine : (rank : ℕ) (own : NinePart) (s : MachineState) → (
-    let later : NinePart = record own { nine = record own.nine { processor = record own.nine.processor { due = past_stall s.io own.nine.processor.due } } } in
-    step_by rank Geometry (with_nine_part own s) ≡ step_with (with_nine_part later) (step_by rank Geometry s))
-geometry_leaves_nine rank own s =
-    let due = own.nine.processor.due in
-    let put : MachineState → MachineState = λ m. with_nine_due m.nine.processor.due (with_nine_part own m) in
-    geometry_delays rank due (put s) ∙ ap (step_with (with_nine_due (past_stall s.io due))) (comes_to_same rank Geometry s put (record { shared = refl; vram = refl }) (λ left. refl))

@@ -1,63 +1,41 @@
-use Rattle.std.proofs.Common.{ℕ, zero, suc, ◌≡◌, ◌<◌, ◌≤◌, ◌+◌, ◌-◌, ◌==◌, ◌^◌, nat_lt, max, Bool, true, false, if◌then◌else◌, bit_and, bit_or, List, [], ◌∷◌, length, Option, Some, None, inl, inr, true≢false, refl, sym, ◌∙◌, ap, subst, arith}
-use Rattle.std.specs.Prelude.{◌&&◌, ◌||◌, not, IfSome}
-use Rattle.std.specs.List.{AllByRecursion}
-use Rattle.std.specs.Int.{bit_at, bit_not, w32}
+use Rattle.ds_machine.proofs.Words.{ℕ, zero, suc, ◌≡◌, ◌<◌, ◌≤◌, ◌+◌, ◌-◌, ◌==◌, ◌^◌, nat_lt, max, Bool, true, false, if◌then◌else◌, bit_and, bit_or}
+use Rattle.ds_machine.proofs.Words.{List, [], ◌∷◌, length, Option, Some, None, inl, inr, true≢false, refl, sym, ◌∙◌, ap, subst, arith, ◌&&◌, ◌||◌}
+use Rattle.ds_machine.proofs.Words.{not, IfSome, AllByRecursion, bit_at, bit_not, w32, bit_at-zero, bit_at_and, bit_at_or, same_from_bits, both}
+use Rattle.ds_machine.proofs.Words.{both_true, equal, if_false, if_true, is_equal, low_or_high, lt_cases, not_false, memory_size, due_number, KeyLine}
+use Rattle.ds_machine.proofs.Words.{Shared, Own7, Palette, Oam, Arch, V4, V5, Proc, Nine, Seven, Tick, registers_format, card_due, dma_format_by}
+use Rattle.ds_machine.proofs.Words.{ready, DmaState, any_runs, awaits_geometry, channel_at, channel_due, dma_due, due_with, last_tick, least_running}
+use Rattle.ds_machine.proofs.Words.{DmaDue, held_due, IoState, channel_comes_before, io_of, release_of, blocks_processor, IsBy, IsPastBy, IsSoonBy}
+use Rattle.ds_machine.proofs.Words.{actor_of, IsOver, kept_twice, soon, word_format, StandsFor, IrqState, IsIrq, events, irq_levelled, level}
+use Rattle.ds_machine.proofs.Words.{shares_bit, timer_at, timer_due, gx_level, is_half_empty, is_stalled, waiting_entries, holds_by, scans_follow}
+use Rattle.ds_machine.proofs.Words.{ScanState, scan_before, scan_due, scan_due_tick, HasMachineBounds, due_by, due_unless, dues_of, Around}
+use Rattle.ds_machine.proofs.Words.{SavedProcessor, asked_of, channels_format, is_late, machine_format, machine_format_by, memories_format}
+use Rattle.ds_machine.proofs.Words.{processor_format, processors_format, released_again, saved_channels, saved_memories, saved_processors}
+use Rattle.ds_machine.proofs.Words.{saved_units, script_from, units_format, IsSound, MachineState, ProcessorState, processor_of, tick_of}
+use Rattle.ds_machine.proofs.Words.{IsWithinTick}
 use Rattle.std.proofs.lemmas.Nat.{and_le_l, and_le_r}
-use Rattle.std.proofs.lemmas.Nat.Bits.{bit_at-lt, bit_at-zero, bit_at_above, bit_at_and, bit_at_not, bit_at_or, same_from_bits}
-use Rattle.ds_base.proofs.Choices.{both, both_true, equal, equal_self, if_false, if_true, is_equal, is_le, isnt_lt, low_or_high, lt_cases, lt_of, not_false}
-use Rattle.ds_base.specs.Memories.{memory_size}
-use Rattle.ds_base.specs.Schedules.{due_number}
-use Rattle.ds_base.specs.declared.keys.KeyLine.{KeyLine}
+use Rattle.std.proofs.lemmas.Nat.Bits.{bit_at-lt, bit_at_above, bit_at_not}
+use Rattle.ds_base.proofs.Choices.{equal_self, is_le, isnt_lt, lt_of}
 use Rattle.ds_base.specs.declared.memories.Memory.{Memory}
-use Rattle.ds_base.specs.declared.memories.Memory.TheVariants.{Main, Shared, Own7, Itcm, Dtcm, Palette, Oam}
-use Rattle.ds_base.specs.declared.processors.Arch.{Arch}
-use Rattle.ds_base.specs.declared.processors.Arch.TheVariants.{V4, V5}
-use Rattle.ds_base.specs.declared.processors.Proc.{Proc}
-use Rattle.ds_base.specs.declared.processors.Proc.TheVariants.{Nine, Seven}
-use Rattle.ds_base.specs.declared.ticks.Tick.{Tick}
+use Rattle.ds_base.specs.declared.memories.Memory.TheVariants.{Main, Itcm, Dtcm}
 use Rattle.arm_core.proofs.SavedLaws.{registers_stand}
-use Rattle.arm_core.specs.Saved.{registers_format}
 use Rattle.cp15_tcm.proofs.SavedLaws.{cp15_stands}
 use Rattle.ds_card.proofs.SavedLaws.{card_stands}
-use Rattle.ds_card.specs.Cards.{card_due}
 use Rattle.ds_card.specs.Saved.{IsCardAt}
 use Rattle.ds_dma.proofs.SavedLaws.{dma_stands}
-use Rattle.ds_dma.specs.Saved.{AreTriggeredBy, dma_format_by}
-use Rattle.ds_dma.specs.Channels.{ready}
-use Rattle.ds_dma.specs.States.{DmaState, any_runs, awaits_geometry, channel_at, channel_due, dma_due, due_with, last_tick, least_running}
-use Rattle.ds_dma.specs.declared.dma.DmaDue.{DmaDue}
+use Rattle.ds_dma.specs.Saved.{AreTriggeredBy}
 use Rattle.ds_dma.proofs.Turns.{least_below}
 use Rattle.ds_ipc.proofs.SavedLaws.{ipc_stands}
 use Rattle.ds_math.proofs.SavedLaws.{divider_stands, root_stands}
-use Rattle.ds_ports.specs.Dues.{held_due}
-use Rattle.ds_ports.specs.Io.{IoState, channel_comes_before, io_of, release_of}
-use Rattle.ds_ports.specs.ProcessorIo.{blocks_processor}
-use Rattle.ds_ports.specs.Within.{IsBy, IsPastBy, IsSoonBy}
-use Rattle.ds_runs.specs.Actors.{actor_of}
-use Rattle.ds_runs.specs.Runs.{IsOver}
 use Rattle.ds_state.proofs.Exact.{round_trips}
-use Rattle.ds_state.proofs.Kept.{kept_twice}
-use Rattle.ds_state.specs.Formats.{soon, word_format}
-use Rattle.ds_state.specs.Laws.{StandsFor}
 use Rattle.ds_timers.proofs.SavedLaws.{irq_stands, timers_stand}
-use Rattle.ds_timers.specs.Irqs.{IrqState, IsIrq, events, irq_levelled, level, shares_bit}
 use Rattle.ds_timers.specs.Saved.{IsAnchoredAt}
-use Rattle.ds_timers.specs.Timing.{timer_at, timer_due}
 use Rattle.gx_fifo.proofs.SavedLaws.{gx_stands}
-use Rattle.gx_fifo.specs.GxStates.{gx_level, is_half_empty, is_stalled, waiting_entries}
-use Rattle.gx_fifo.specs.Saved.{IsSavedGx, holds_by}
+use Rattle.gx_fifo.specs.Saved.{IsSavedGx}
 use Rattle.video2d.proofs.SavedLaws.{video_stands}
-use Rattle.video2d.proofs.SavedScans.{scans_follow}
 use Rattle.video2d.specs.Saved.{IsSavedVideo}
-use Rattle.video2d.specs.Scans.{ScanState, scan_before, scan_due, scan_due_tick}
 use Rattle.vram_banks.proofs.SavedLaws.{banks_stand}
-use Rattle.ds_machine.specs.Back.{HasMachineBounds, MachinesComeBack}
-use Rattle.ds_machine.specs.Reference.{due_by, due_unless, dues_of}
-use Rattle.ds_machine.specs.Saved.{Around, SavedProcessor, asked_of, channels_format, is_late, machine_format, machine_format_by, memories_format, own_due, processor_format, processors_format, released_again, saved_channels, saved_memories, saved_processor, saved_processors, saved_size, saved_units, script_from, units_format}
-use Rattle.ds_machine.specs.Sound.{IsSound}
-use Rattle.ds_machine.specs.States.{MachineState, ProcessorState}
-use Rattle.ds_machine.specs.Steps.{processor_of, tick_of}
-use Rattle.ds_machine.specs.Within.{IsWithinTick}
+use Rattle.ds_machine.specs.Back.{MachinesComeBack}
+use Rattle.ds_machine.specs.Saved.{own_due, saved_processor, saved_size}
 use Rattle.ds_machine.proofs.DueTicks.{due_of_rank}
 
 -- A machine at a tick stands for its bytes.

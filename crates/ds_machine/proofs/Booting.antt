@@ -1,22 +1,10 @@
-use Rattle.std.proofs.Common.{ℕ, ◌≡◌, ◌≤◌, ◌+◌, inl, inr, false, true, List, ◌∷◌, length, take, refl, sym, ◌∙◌, ap, arith, []}
-use Rattle.std.specs.Prelude.{◌&&◌}
-use Rattle.ds_base.specs.declared.keys.KeyLine.{KeyLine}
-use Rattle.ds_base.specs.declared.memories.Width.TheVariants.{Byte}
-use Rattle.ds_base.specs.declared.processors.Proc.{Proc}
-use Rattle.ds_base.specs.declared.processors.Proc.TheVariants.{Nine, Seven}
-use Rattle.ds_base.specs.declared.ticks.Tick.{Tick}
-use Rattle.ds_header.specs.Fields.{image_of, image_place}
+use Rattle.ds_machine.proofs.Words.{ℕ, ◌≡◌, ◌≤◌, ◌+◌, inl, inr, false, true, List, ◌∷◌, length, take, refl, sym, ◌∙◌, ap, arith, [], ◌&&◌, KeyLine}
+use Rattle.ds_machine.proofs.Words.{Byte, Proc, Nine, Seven, Tick, image_of, image_place, Tick, IoState, io_at_boot, io_of, is_settled, shares_bit}
+use Rattle.ds_machine.proofs.Words.{numbers_at_boot, header_bytes, header_place, machine_blank, with_header, with_image, copied, stored, AreAsleep}
+use Rattle.ds_machine.proofs.Words.{HasSoundParts, IsSound, IsRunning, run_of, MachineState, ProcessorState, counts_of, with_file, map_of}
+use Rattle.ds_machine.proofs.Words.{processor_of}
 use Rattle.ds_header.specs.Rules.{ImageLies}
-use Rattle.ds_base.specs.declared.ticks.Tick.{Tick}
-use Rattle.ds_ports.specs.Io.{IoState, io_at_boot, io_of, is_settled}
-use Rattle.ds_timers.specs.Irqs.{shares_bit}
-use Rattle.gx_geometry.specs.Numbers.{numbers_at_boot}
-use Rattle.ds_machine.specs.Booted.{header_bytes, header_place, machine_blank, machine_booted, with_header, with_image}
-use Rattle.ds_machine.specs.Boots.{copied, stored}
-use Rattle.ds_machine.specs.Sound.{AreAsleep, HasSoundParts, IsSound}
-use Rattle.ds_machine.specs.Counting.{IsRunning, run_of}
-use Rattle.ds_machine.specs.States.{MachineState, ProcessorState, counts_of, with_file}
-use Rattle.ds_machine.specs.Steps.{map_of, processor_of}
+use Rattle.ds_machine.specs.Booted.{machine_booted}
 use Rattle.ds_machine.proofs.RamAccesses.{ram_write_io}
 use Rattle.ds_machine.proofs.Running.{starts_running}
 

@@ -1,39 +1,14 @@
-use Rattle.std.proofs.Common.{ℕ, true, false, List, [], ◌∷◌, ◌++◌, Option, Some, None}
-use Rattle.std.specs.Prelude.{◌&&◌, IfSome}
-use Rattle.ds_base.proofs.Choices.{either}
-use Rattle.ds_base.specs.Accesses.{Access, Fetch, MemoryMachine, Performed, Read, Write, perform, refused_or}
-use Rattle.ds_base.specs.Numbers.{aligned_down}
-use Rattle.ds_base.specs.declared.left_out.Stop.{Stop}
-use Rattle.ds_base.specs.declared.memories.Memory.TheVariants.{Vram}
-use Rattle.ds_base.specs.declared.memories.Width.{Width}
-use Rattle.ds_base.specs.declared.memories.Width.TheVariants.{Byte, Half, Word}
-use Rattle.ds_base.specs.declared.processors.Proc.{Proc}
-use Rattle.ds_base.specs.declared.processors.Proc.TheVariants.{Nine, Seven}
-use Rattle.ds_base.specs.declared.ticks.Tick.{Tick}
-use Rattle.ds_card.specs.CardPorts.{data_port_at}
-use Rattle.ds_card.specs.Cards.{CardState}
-use Rattle.ds_card.specs.Transfers.{CardHappens, CardPasses, and_taken}
-use Rattle.ds_card.specs.Transfers.CardHappens.{wrote, was_read}
-use Rattle.ds_card.specs.Transfers.CardPasses.{passed_none, passed_one}
-use Rattle.cp15_tcm.specs.TightlyCoupled.{tcm_of}
-use Rattle.cp15_tcm.specs.declared.answers.Tcm.{Tcm}
-use Rattle.cp15_tcm.specs.declared.answers.Tcm.TheVariants.{Itcm, Dtcm, Past}
-use Rattle.ds_map.specs.Accesses.{after_read_at, is_byte_of_nine, map_read, map_written, takes_no_bytes, written_at}
-use Rattle.ds_map.specs.Maps.{MapState}
-use Rattle.ds_map.specs.Views.{NineReach, SevenReach, nine_memory, seven_memory, tcm_read, tcm_written}
-use Rattle.ds_places.specs.AddressTables.{place_of}
-use Rattle.ds_places.specs.declared.kinds.Place.{Place}
+use Rattle.ds_machine.proofs.Words.{ℕ, true, false, List, [], ◌∷◌, ◌++◌, Option, Some, None, ◌&&◌, IfSome, either, Access, Fetch, MemoryMachine}
+use Rattle.ds_machine.proofs.Words.{Performed, Read, Write, perform, refused_or, aligned_down, Stop, Vram, Width, Byte, Half, Word, Proc, Nine, Seven}
+use Rattle.ds_machine.proofs.Words.{Tick, data_port_at, CardState, CardHappens, CardPasses, and_taken, wrote, was_read, passed_none, passed_one}
+use Rattle.ds_machine.proofs.Words.{tcm_of, Tcm, Itcm, Dtcm, Past, after_read_at, is_byte_of_nine, map_read, map_written, takes_no_bytes, written_at}
+use Rattle.ds_machine.proofs.Words.{MapState, NineReach, SevenReach, nine_memory, seven_memory, tcm_read, tcm_written, place_of, Place, IoState}
+use Rattle.ds_machine.proofs.Words.{port_read, port_refusal, port_written, slot_read, unless_stopped, whole_in, slot_of, after_write, meaning_of}
+use Rattle.ds_machine.proofs.Words.{Register, Auxspicnt, CardData, CardWord, Slot, vram_written, map_word, place_word, register_word, slot_word}
+use Rattle.ds_machine.proofs.Words.{tcm_word}
 use Rattle.ds_places.specs.declared.kinds.Place.TheVariants as place
-use Rattle.ds_ports.specs.Io.{IoState}
-use Rattle.ds_ports.specs.Ports.{port_read, port_refusal, port_written, slot_read, unless_stopped, whole_in}
-use Rattle.ds_ports.specs.RegisterMap.{slot_of}
-use Rattle.ds_ports.specs.Registers.{after_write, meaning_of}
-use Rattle.ds_ports.specs.declared.registers.Register.{Register}
-use Rattle.ds_ports.specs.declared.registers.Register.TheVariants.{Auxspicnt, CardData, CardWord}
-use Rattle.ds_ports.specs.declared.registers.Slot.{Slot}
 use Rattle.ds_ports.proofs.Covered.{are_all, write_leaves}
-use Rattle.vram_banks.specs.Cells.{vram_written}
-use Rattle.ds_machine.specs.CardSteps.{map_word, nine_word, place_word, register_word, seven_word, slot_word, tcm_word}
+use Rattle.ds_machine.specs.CardSteps.{nine_word, seven_word}
 use Rattle.ds_machine.specs.CardSteps.{words_along, words_unless}
 
 -- Each access passes the card as the card's own law says, with the word that it takes; so do accesses that are made one after another.

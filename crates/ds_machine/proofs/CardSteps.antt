@@ -1,47 +1,27 @@
-use Rattle.std.proofs.Common.{ℕ, ◌≡◌, Bool, true, false, if◌then◌else◌, List, [], ◌∷◌, ◌++◌, Option, Some, None, Result, Ok, Err, IsSome, refl, sym, ◌∙◌, ap, subst}
-use Rattle.ds_base.specs.declared.keys.KeyLine.{KeyLine}
-use Rattle.ds_base.specs.declared.left_out.LeftOut.{LeftOut}
-use Rattle.ds_base.specs.declared.left_out.Stop.{Stop}
-use Rattle.ds_base.specs.declared.processors.Proc.{Proc}
-use Rattle.ds_base.specs.declared.processors.Proc.TheVariants.{Nine, Seven}
-use Rattle.ds_base.specs.declared.ticks.Tick.{Tick}
+use Rattle.ds_machine.proofs.Words.{ℕ, ◌≡◌, Bool, true, false, if◌then◌else◌, List, [], ◌∷◌, ◌++◌, Option, Some, None, Result, Ok, Err, refl, sym}
+use Rattle.ds_machine.proofs.Words.{◌∙◌, ap, subst, KeyLine, LeftOut, Stop, Proc, Nine, Seven, Tick, Cost, Halted, Left, CardState, card_after_event}
+use Rattle.ds_machine.proofs.Words.{card_due, card_starter, CardPasses, and_taken, came, passed_none, HBlank, VBlank, map_value, map_written}
+use Rattle.ds_machine.proofs.Words.{MapState, map_after_unit, next_unit, unit_read, unit_refusal, unit_taken, unit_waits, NineReach, SevenReach}
+use Rattle.ds_machine.proofs.Words.{nine_memory, seven_memory, io_due, IoState, both_raised, card_done_at, channel_moved, channels_triggered}
+use Rattle.ds_machine.proofs.Words.{shown_to_others, starter_told, video_done, actor_of, At, Ending, MachineStep, Makes, Runs, Stops, more, over}
+use Rattle.ds_machine.proofs.Words.{stops, KeyScript, Video, Timer, Card, Dma, Processor, map_word, channel_step, moved_by, nine_side, seven_side}
+use Rattle.ds_machine.proofs.Words.{Shown, after_line, awake, due_by, reference, step_by, swapped_if, video_step, step_accesses, MachineState}
+use Rattle.ds_machine.proofs.Words.{left_by, ended, goes_on, line_of, machine_concluded, machine_settled, map_of, nine_reach, outcome_of}
+use Rattle.ds_machine.proofs.Words.{processor_of, seven_reach, tick_of, wakes, with_map, woken_one, scan_due_tick, starts_vblank, unless_stop}
+use Rattle.ds_machine.proofs.Words.{video_after_event, video_answer, video_shown, video_stop}
+use Rattle.std.proofs.Common.{IsSome}
 use Rattle.arm_core.specs.declared.outcomes.Stepped as arm
-use Rattle.arm_core.specs.declared.outcomes.Stepped.TheVariants.{Cost, Halted, Left}
-use Rattle.ds_card.specs.Cards.{CardState, card_after_event, card_due, card_starter}
-use Rattle.ds_card.specs.Transfers.{CardPasses, and_taken}
-use Rattle.ds_card.specs.Transfers.CardHappens.{came}
-use Rattle.ds_card.specs.Transfers.CardPasses.{passed_none}
 use Rattle.ds_card.proofs.Begins.{begins}
 use Rattle.ds_dma.specs.declared.channels.Unit.{Unit as DmaUnit}
-use Rattle.ds_dma.specs.declared.controls.Cause.TheVariants.{HBlank, VBlank}
-use Rattle.ds_map.specs.Accesses.{map_value, map_written}
-use Rattle.ds_map.specs.Maps.{MapState}
-use Rattle.ds_map.specs.Moves.{map_after_unit, next_unit, unit_read, unit_refusal, unit_taken, unit_waits}
-use Rattle.ds_map.specs.Views.{NineReach, SevenReach, nine_memory, seven_memory}
-use Rattle.ds_ports.specs.Dues.{io_due}
-use Rattle.ds_ports.specs.Io.{IoState, both_raised, card_done_at, channel_moved, channels_triggered, shown_to_others, starter_told, video_done}
-use Rattle.ds_runs.specs.Actors.{actor_of}
-use Rattle.ds_runs.specs.Runs.{At, Ending, MachineStep, Makes, Runs, Stops, more, over, stops}
 use Rattle.ds_runs.specs.Runs as runs
 use Rattle.ds_runs.specs.declared.actors.Actor as actor
-use Rattle.ds_runs.specs.declared.actors.Actor.TheVariants.{KeyScript, Video, Timer, Card, Dma, Processor}
-use Rattle.ds_machine.specs.CardSteps.{MachineTakesInOrder, RunsTakeCardSteps, StepsPassCard, TakesCardSteps, map_word, unit_words, words_by}
+use Rattle.ds_machine.specs.CardSteps.{MachineTakesInOrder, RunsTakeCardSteps, StepsPassCard, TakesCardSteps, unit_words, words_by}
 use Rattle.ds_machine.specs.CardSteps.TakesCardSteps.{more_card_steps, no_card_steps}
-use Rattle.ds_machine.specs.Channels.{channel_step, moved_by}
-use Rattle.ds_machine.specs.PrivateSides.{nine_side, seven_side}
-use Rattle.ds_machine.specs.Reference.{Shown, after_line, awake, due_by, reference, step_by, swapped_if, video_step}
-use Rattle.ds_machine.specs.Rooms.{step_accesses}
-use Rattle.ds_machine.specs.States.{MachineState}
-use Rattle.ds_machine.specs.Statuses.{left_by}
-use Rattle.ds_machine.specs.Steps.{ended, goes_on, line_of, machine_concluded, machine_settled, map_of, nine_reach, outcome_of, processor_of}
-use Rattle.ds_machine.specs.Steps.{seven_reach, tick_of, wakes, with_map, woken_one}
 use Rattle.ds_machine.proofs.CardAccesses.{joins, joins_none, map_reads, map_writes, nine_passes, passes_one, seven_passes}
 use Rattle.ds_machine.proofs.Files.{steps_keep_file}
 use Rattle.ds_machine.proofs.MadeAccesses.{seven_made}
 use Rattle.ds_machine.proofs.Rooms.{step_made}
 use Rattle.ds_machine.proofs.Wakes.{settle_leaves}
-use Rattle.video2d.specs.Scans.{scan_due_tick, starts_vblank}
-use Rattle.video2d.specs.Videos.{unless_stop, video_after_event, video_answer, video_shown, video_stop}
 use Rattle.video2d.specs.declared.videos.Shown as display
 
 -- Each step of the machine passes the card as the card's own law says, and so do steps one after another.

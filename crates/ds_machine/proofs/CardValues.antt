@@ -1,33 +1,15 @@
-use Rattle.std.proofs.Common.{ℕ, ◌≡◌, ◌≤◌, ◌+◌, ◌*◌, ◌%◌, ◌^◌, nat_le, Bool, true, false, Option, Some, None, refl, ◌∙◌, ap, arith}
-use Rattle.std.specs.Prelude.{IfSome}
-use Rattle.std.proofs.lemmas.Option.{none-some}
-use Rattle.ds_base.proofs.Choices.{le_of}
-use Rattle.ds_base.specs.Numbers.{aligned_down, value_by, width_bytes}
-use Rattle.ds_base.specs.declared.memories.Width.{Width}
-use Rattle.ds_base.specs.declared.memories.Width.TheVariants.{Byte, Half, Word}
-use Rattle.ds_base.specs.declared.processors.Proc.{Proc}
-use Rattle.ds_base.specs.declared.processors.Proc.TheVariants.{Nine, Seven}
-use Rattle.ds_base.specs.declared.ticks.Tick.{Tick}
-use Rattle.ds_card.specs.CardPorts.{data_port_at}
+use Rattle.ds_machine.proofs.Words.{ℕ, ◌≡◌, ◌≤◌, ◌+◌, ◌*◌, ◌%◌, ◌^◌, nat_le, Bool, true, false, Option, Some, None, refl, ◌∙◌, ap, arith, IfSome}
+use Rattle.ds_machine.proofs.Words.{none-some, le_of, aligned_down, width_bytes, Width, Byte, Half, Word, Proc, Nine, Seven, Tick, data_port_at}
+use Rattle.ds_machine.proofs.Words.{tcm_of, Tcm, Itcm, Dtcm, Past, map_value, value_at, MapState, NineReach, tcm_value, place_of, Place, IoState}
+use Rattle.ds_machine.proofs.Words.{whole_if, whole_in, slot_of, meaning_of, Register, CardData, Slot, map_word, place_word, register_word, slot_word}
+use Rattle.ds_machine.proofs.Words.{tcm_word}
+use Rattle.ds_base.specs.Numbers.{value_by}
 use Rattle.ds_card.specs.Cards.{card_byte, value_or}
-use Rattle.cp15_tcm.specs.TightlyCoupled.{tcm_of}
-use Rattle.cp15_tcm.specs.declared.answers.Tcm.{Tcm}
-use Rattle.cp15_tcm.specs.declared.answers.Tcm.TheVariants.{Itcm, Dtcm, Past}
-use Rattle.ds_map.specs.Accesses.{map_value, value_at}
-use Rattle.ds_map.specs.Maps.{MapState}
-use Rattle.ds_map.specs.Views.{NineReach, tcm_value}
-use Rattle.ds_places.specs.AddressTables.{place_of}
-use Rattle.ds_places.specs.declared.kinds.Place.{Place}
 use Rattle.ds_places.specs.declared.kinds.Place.TheVariants as place
-use Rattle.ds_ports.specs.Io.{IoState}
-use Rattle.ds_ports.specs.Ports.{part, port_half, port_value, read_or, whole_if, whole_in}
-use Rattle.ds_ports.specs.RegisterMap.{IsSlot, slot_of}
-use Rattle.ds_ports.specs.Registers.{meaning_of}
-use Rattle.ds_ports.specs.declared.registers.Register.{Register}
-use Rattle.ds_ports.specs.declared.registers.Register.TheVariants.{CardData}
-use Rattle.ds_ports.specs.declared.registers.Slot.{Slot}
+use Rattle.ds_ports.specs.Ports.{part, port_half, port_value, read_or}
+use Rattle.ds_ports.specs.RegisterMap.{IsSlot}
 use Rattle.ds_ports.proofs.RegisterMaps.{some_slot}
-use Rattle.ds_machine.specs.CardSteps.{LoadsGiveWords, ReadsGiveWords, map_word, place_word, register_word, slot_word, tcm_word}
+use Rattle.ds_machine.specs.CardSteps.{LoadsGiveWords, ReadsGiveWords}
 
 -- A word of the card's that a read takes is the value that it gets.
 

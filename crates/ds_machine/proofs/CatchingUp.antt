@@ -1,35 +1,17 @@
-use Rattle.std.specs.Prelude.{◌↔◌, ◌||◌, nat_lt}
-use Rattle.std.proofs.Common.{ℕ, ◌≡◌, ◌<◌, ◌≤◌, ◌+◌, ◌*◌, ◌^◌, ◌==◌, ◌&&◌, ◌⊎◌, inl, inr, Bool, true, false, true≢false, if◌then◌else◌, List, [], Option, Some, None, IsSome, refl, sym, ◌∙◌, ap, subst, arith}
-use Rattle.std.proofs.lemmas.Option.{none-some, same_Some}
-use Rattle.std.proofs.lemmas.Bool.{and_parts}
-use Rattle.ds_base.proofs.Choices.{true_or_false}
-use Rattle.ds_base.specs.Schedules.{IsEarly, IsLater}
-use Rattle.ds_base.specs.declared.left_out.LeftOut.{LeftOut}
-use Rattle.ds_base.specs.declared.processors.Arch.TheVariants.{V4}
-use Rattle.ds_base.specs.declared.ticks.Tick.{Tick}
-use Rattle.arm_core.specs.Statuses.{HasStatuses}
-use Rattle.arm9_exec.specs.Statuses.{HasNineStatuses}
-use Rattle.ds_ports.specs.Acting.{is_quiet}
-use Rattle.ds_ports.specs.Io.{IoState, io_event, tick_after, with_gx}
-use Rattle.ds_runs.specs.Actors.{actor_of}
-use Rattle.ds_runs.specs.Runs.{Ending, IsLeast, MachineStep, Makes, Runs, due_at}
+use Rattle.ds_machine.proofs.Words.{◌↔◌, ◌||◌, ℕ, ◌≡◌, ◌<◌, ◌≤◌, ◌+◌, ◌*◌, ◌^◌, ◌==◌, ◌⊎◌, inl, inr, Bool, true, false, true≢false, if◌then◌else◌}
+use Rattle.ds_machine.proofs.Words.{List, [], Option, Some, None, refl, sym, ◌∙◌, ap, subst, arith, none-some, same_Some, and_parts, true_or_false}
+use Rattle.ds_machine.proofs.Words.{IsLater, LeftOut, V4, Tick, HasStatuses, HasNineStatuses, is_quiet, IoState, io_event, tick_after, with_gx}
+use Rattle.ds_machine.proofs.Words.{actor_of, Ending, IsLeast, MachineStep, Makes, Runs, due_at, Geometry, one_step, same_makes, complete_command}
+use Rattle.ds_machine.proofs.Words.{GxState, done_by, gx_finished, Swapped, geometry_after, GeometryCommand, acting_dues, is_due_before, last_frame}
+use Rattle.ds_machine.proofs.Words.{last_lists, CatchesUp, CatchesUpFor, CatchesUpIf, ComesBeforeAll, TakesGeometry, more_geometry, no_geometry}
+use Rattle.ds_machine.proofs.Words.{observes_by, rank_of, Shown, dues_of, reference, reference_step, IsSound, MachineState, NineState, SevenState}
+use Rattle.ds_machine.proofs.Words.{counts_of, HasBothStatuses, MayAct, ticks_left}
+use Rattle.std.specs.Prelude.{nat_lt}
+use Rattle.std.proofs.Common.{◌&&◌, IsSome}
+use Rattle.ds_base.specs.Schedules.{IsEarly}
 use Rattle.ds_runs.specs.declared.actors.Actor as actor
-use Rattle.ds_runs.specs.declared.actors.Actor.TheVariants.{Geometry}
-use Rattle.ds_runs.proofs.Lags.{one_step}
-use Rattle.ds_runs.proofs.RunLaws.{same_makes}
-use Rattle.gx_fifo.specs.Entries.{complete_command}
-use Rattle.gx_fifo.specs.GxStates.{GxState, done_by, gx_finished}
-use Rattle.gx_geometry.specs.States.{Swapped, geometry_after}
-use Rattle.gx_matrix.specs.declared.commands.GeometryCommand.{GeometryCommand}
-use Rattle.ds_machine.specs.Acting.{acting_dues, is_behind, is_due_before}
-use Rattle.ds_machine.specs.Frames.{last_frame, last_lists}
-use Rattle.ds_machine.specs.Lagging.{CatchesUp, CatchesUpFor, CatchesUpIf, CatchingUpRuns, ComesBeforeAll, TakesGeometry, more_geometry, no_geometry, observes_by}
-use Rattle.ds_machine.specs.Private.{rank_of}
-use Rattle.ds_machine.specs.Reference.{Shown, dues_of, reference, reference_step}
-use Rattle.ds_machine.specs.Sound.{IsSound}
-use Rattle.ds_machine.specs.States.{MachineState, NineState, SevenState, counts_of}
-use Rattle.ds_machine.specs.Statuses.{HasBothStatuses}
-use Rattle.ds_machine.specs.TurnSteps.{MayAct, ticks_left}
+use Rattle.ds_machine.specs.Acting.{is_behind}
+use Rattle.ds_machine.specs.Lagging.{CatchingUpRuns}
 use Rattle.ds_machine.proofs.ActingDues.{due_where_acts, loud_same}
 use Rattle.ds_machine.proofs.GeometryFirst.{ComesFirst, least_acting, least_geometry}
 use Rattle.ds_machine.proofs.LagCommutes.{late_put}

@@ -1,47 +1,23 @@
-use Rattle.std.proofs.Common.{ℕ, ◌≡◌, ◌<◌, ◌+◌, inl, inr, Bool, true, false, true≢false, List, [], Option, Some, None, refl, sym, ◌∙◌, ap, subst, arith}
-use Rattle.std.proofs.Math.Nat.{le-max_right}
-use Rattle.std.proofs.lemmas.Option.{none-some}
-use Rattle.std.specs.Prelude.{IsSome}
-use Rattle.ds_base.specs.KeyLines.{AreKeyLines}
-use Rattle.ds_base.specs.Schedules.{IsLater, Reschedules}
-use Rattle.ds_base.specs.declared.left_out.LeftOut.{LeftOut}
-use Rattle.ds_base.specs.declared.left_out.Stop.{Stop}
-use Rattle.ds_base.specs.declared.processors.Proc.{Proc}
-use Rattle.ds_base.specs.declared.processors.Proc.TheVariants.{Nine, Seven}
-use Rattle.ds_base.specs.declared.ticks.Tick.{Tick}
-use Rattle.ds_card.specs.Cards.{card_due_for}
-use Rattle.ds_dma.specs.States.{DmaState, channel_due, dma_due}
+use Rattle.ds_machine.proofs.Words.{ℕ, ◌≡◌, ◌<◌, ◌+◌, inl, inr, Bool, true, false, true≢false, List, [], Option, Some, None, refl, sym, ◌∙◌, ap}
+use Rattle.ds_machine.proofs.Words.{subst, arith, le-max_right, none-some, IsSome, AreKeyLines, IsLater, Reschedules, LeftOut, Stop, Proc, Nine}
+use Rattle.ds_machine.proofs.Words.{Seven, Tick, card_due_for, DmaState, channel_due, dma_due, other_proc, map_value, MapState, unit_waits_most}
+use Rattle.ds_machine.proofs.Words.{unit_waits, next_unit, map_after_unit, unit_read, unit_refusal, unit_taken, map_read_leaves, map_write_goes}
+use Rattle.ds_machine.proofs.Words.{held_due, io_due, IsIo, IsTold, Goes, IsUnchanged, HasOnlyLaterEvents, ReschedulesEach, ProcessorIoState, IoState}
+use Rattle.ds_machine.proofs.Words.{channel_moved, io_of, is_held, ReadLeaves, all_io_dues, goes_io, of_both, processor_io_is, still_later}
+use Rattle.ds_machine.proofs.Words.{MachineStep, Makes, Stops, Dma, Timer, same_makes, same_stops, not_both, TimerState, timer_at, timer_due, GxState}
+use Rattle.ds_machine.proofs.Words.{is_stalled, channel_step, delayed_past, moved_by, one_event, past_tick, Shown, due_unless, processor_due}
+use Rattle.ds_machine.proofs.Words.{HasSoundParts, MachineState, ProcessorState, counts_of, due_past_unit, is_blocked, is_halted, map_of}
+use Rattle.ds_machine.proofs.Words.{processor_of, with_map, with_processor, VideoState}
 use Rattle.ds_dma.specs.declared.channels.Unit.{Unit as DmaUnit}
 use Rattle.ds_dma.proofs.Turns.{all_later}
-use Rattle.ds_ipc.specs.Ipcs.{other_proc}
-use Rattle.ds_map.specs.Accesses.{map_value}
-use Rattle.ds_map.specs.Maps.{MapState}
-use Rattle.ds_map.proofs.Waiting.{unit_waits_most}
-use Rattle.ds_map.specs.Moves.{unit_waits, next_unit, map_after_unit, unit_read, unit_refusal, unit_taken}
-use Rattle.ds_map.proofs.Later.{map_read_leaves, map_write_goes}
-use Rattle.ds_ports.specs.Dues.{held_due, io_due}
-use Rattle.ds_ports.specs.Happenings.{IsIo, IsTold, Goes, IsUnchanged, HasOnlyLaterEvents, LeavesTransfer, ReschedulesEach}
+use Rattle.ds_ports.specs.HappeningLaws.{LeavesTransfer}
 use Rattle.ds_ports.proofs.HeldDues.{held_later}
-use Rattle.ds_ports.specs.ProcessorIo.{ProcessorIoState}
-use Rattle.ds_ports.specs.Io.{IoState, channel_moved, io_of, is_held}
 use Rattle.ds_ports.proofs.Events.{MovedGoes, moved_goes, some_due}
-use Rattle.ds_ports.proofs.Later.{ReadLeaves, all_io_dues, goes_io, of_both, processor_io_is, still_later}
 use Rattle.ds_ports.proofs.Told.{told_on}
-use Rattle.ds_runs.specs.Runs.{MachineStep, Makes, Stops}
-use Rattle.ds_runs.specs.declared.actors.Actor.TheVariants.{Dma, Timer}
-use Rattle.ds_runs.proofs.RunLaws.{same_makes, same_stops, not_both}
-use Rattle.ds_timers.specs.Timing.{TimerState, timer_at, timer_due}
-use Rattle.gx_fifo.specs.GxStates.{GxState, is_stalled}
-use Rattle.ds_machine.specs.Channels.{channel_step, delayed_past, moved_by, one_event, past_tick}
-use Rattle.ds_machine.specs.Reference.{Shown, due_unless, processor_due}
-use Rattle.ds_machine.specs.Sound.{HasSoundParts}
-use Rattle.ds_machine.specs.States.{MachineState, ProcessorState, counts_of}
 use Rattle.ds_machine.proofs.Ticks.{after_unit}
-use Rattle.ds_machine.specs.Steps.{due_past_unit, is_blocked, is_halted, map_of, processor_of, with_map, with_processor}
 use Rattle.ds_machine.proofs.Moves.{Moves, left_after, other_held, read_held, read_io, moves_of, same_keys, then_io_dues}
 use Rattle.ds_machine.proofs.Rooms.{unit_within}
 use Rattle.ds_machine.proofs.Wakes.{halted_blocks, put_beside, put_counts, put_other, put_processor_io}
-use Rattle.video2d.specs.Videos.{VideoState}
 
 -- The event of a DMA channel.
 

@@ -1,23 +1,10 @@
-use Rattle.std.proofs.Common.{ℕ, ◌≡◌, ◌+◌, ◌/◌, ◌%◌, ◌^◌, Bool, true, false, if◌then◌else◌, List, [], ◌∷◌, Option, Some, None, refl, ◌∙◌, ap}
-use Rattle.ds_base.specs.Accesses.{Access, Fetch, MemoryMachine, Performed, Read, Write, perform, refused_or, with_value}
-use Rattle.ds_base.specs.declared.left_out.Stop.{Stop}
-use Rattle.ds_base.specs.declared.memories.Width.{Width}
-use Rattle.ds_base.specs.declared.memories.Width.TheVariants.{Half, Word}
-use Rattle.ds_base.specs.declared.processors.Arch.{Arch}
-use Rattle.arm_words.specs.ArmTable.{decoded_arm}
-use Rattle.arm_words.specs.Parts.{condition_of}
-use Rattle.arm_words.specs.ThumbTable.{decoded_thumb}
-use Rattle.arm_words.specs.declared.instructions.Instr.{Instr}
-use Rattle.arm_core.specs.Conditions.{holds}
-use Rattle.arm_core.specs.Effects.{Meaning, Outcome, carried_out, concluded}
-use Rattle.arm_core.specs.Exceptions.{interrupt_meaning, undefined_meaning}
-use Rattle.arm_core.specs.Meanings.{meaning, skipped}
-use Rattle.arm_core.specs.Registers.{RegisterState, is_thumb}
+use Rattle.ds_machine.proofs.Words.{ℕ, ◌≡◌, ◌+◌, ◌/◌, ◌%◌, ◌^◌, Bool, true, false, if◌then◌else◌, List, [], ◌∷◌, Option, Some, None, refl, ◌∙◌, ap}
+use Rattle.ds_machine.proofs.Words.{Access, Fetch, MemoryMachine, Performed, Read, Write, perform, refused_or, with_value, Stop, Width, Half, Word}
+use Rattle.ds_machine.proofs.Words.{Arch, decoded_arm, condition_of, decoded_thumb, Instr, holds, Meaning, Outcome, carried_out, concluded}
+use Rattle.ds_machine.proofs.Words.{interrupt_meaning, undefined_meaning, meaning, skipped, RegisterState, is_thumb, FetchOutcome, Setting, enters}
+use Rattle.ds_machine.proofs.Words.{executed_word, fetched, fetched_half, fetched_word, stop_of, unless_refused, waits_of, data_accesses, data_waits}
+use Rattle.ds_machine.proofs.Words.{next_fetch, waits_of_step, taken, SideOf, side_taken, side_waits}
 use Rattle.arm_core.specs.Steps as steps
-use Rattle.arm_core.specs.Steps.{FetchOutcome, Setting, enters, executed_word, fetched, fetched_half, fetched_word, stop_of}
-use Rattle.ds_map.specs.Waits.{unless_refused, waits_of}
-use Rattle.ds_machine.specs.Sides.{data_accesses, data_waits, next_fetch, waits_of_step, taken}
-use Rattle.ds_machine.specs.PrivateSides.{SideOf, side_step, side_taken, side_waits}
 
 -- A change of what a processor reaches that none of its accesses tells or undoes, none of its steps does.
 
@@ -133,37 +120,37 @@ module _ {S : Type 0} (m : MemoryMachine S) (All : S → List Access → Type 0)
         ∙ ap (λ (n : ℕ). first + unless_refused stop n) (waits_commute next rest (c.write_stays s at width value rest i))
 
   pub step_waits_commute : (side : SideOf S) (line : Bool) (old : RegisterState) (s : S)
-      → ((s : S) (access : Access) (rest : List Access) → All s (access ∷ rest) → side.wait (f s) access ≡ side.wait s access)
-      → ((width : Width) → All s (Fetch old.pc width ∷ [])) → side.base (f s) ≡ side.base s
-      → (enters line old ≡ false → All s (data_accesses side.arch (side.base s) old (fetched m side.arch old s).instr))
+      → ((s : S) (access : Access) (rest : List Access) → All s (access ∷ rest) → side.step.wait (f s) access ≡ side.step.wait s access)
+      → ((width : Width) → All s (Fetch old.pc width ∷ [])) → side.step.base (f s) ≡ side.step.base s
+      → (enters line old ≡ false → All s (data_accesses side.step.arch (side.step.base s) old (fetched m side.step.arch old s).instr))
       → side_waits m side line old (f s) ≡ side_waits m side line old s
   unfolding waits_of_step
   step_waits_commute side line old s same fetch base apart = by_entry (enters line old) refl where
-    by_entry : (b : Bool) → enters line old ≡ b → (if b then 0 else side.wait (f s) (next_fetch old) + data_waits m (side_step side) old (f s))
-        ≡ (if b then 0 else side.wait s (next_fetch old) + data_waits m (side_step side) old s)
+    by_entry : (b : Bool) → enters line old ≡ b → (if b then 0 else side.step.wait (f s) (next_fetch old) + data_waits m side.step old (f s))
+        ≡ (if b then 0 else side.step.wait s (next_fetch old) + data_waits m side.step old s)
     by_entry true e = refl
     by_entry false e =
-        let first = side.wait s (next_fetch old) in
-        let instr = (fetched m side.arch old s).instr in
-        ap (λ (n : ℕ). n + data_waits m (side_step side) old (f s)) (same s (next_fetch old) [] (fetch (if is_thumb old then Half else Word)))
-        ∙ ap (λ (b : ℕ). first + waits_of m side.wait (f s) (data_accesses side.arch b old (fetched m side.arch old (f s)).instr)) base
-        ∙ ap (λ (i : Option Instr). first + waits_of m side.wait (f s) (data_accesses side.arch (side.base s) old i)) (fetched_commutes side.arch old s fetch).instr
-        ∙ ap (λ (n : ℕ). first + n) (waits_commute side.wait same s (data_accesses side.arch (side.base s) old instr) (apart e))
+        let first = side.step.wait s (next_fetch old) in
+        let instr = (fetched m side.step.arch old s).instr in
+        ap (λ (n : ℕ). n + data_waits m side.step old (f s)) (same s (next_fetch old) [] (fetch (if is_thumb old then Half else Word)))
+        ∙ ap (λ (b : ℕ). first + waits_of m side.step.wait (f s) (data_accesses side.step.arch b old (fetched m side.step.arch old (f s)).instr)) base
+        ∙ ap (λ (i : Option Instr). first + waits_of m side.step.wait (f s) (data_accesses side.step.arch (side.step.base s) old i)) (fetched_commutes side.step.arch old s fetch).instr
+        ∙ ap (λ (n : ℕ). first + n) (waits_commute side.step.wait same s (data_accesses side.step.arch (side.step.base s) old instr) (apart e))
 
-  pub taken_commutes : (side : SideOf S) (line : Bool) (old : RegisterState) (s : S) → All s [] → ((width : Width) → All s (Fetch old.pc width ∷ [])) → side.base (f s) ≡ side.base s
-      → (enters line old ≡ false → (let fetch = fetched m side.arch old s in side.executed old (f s) fetch.number fetch.instr ≡ outcome_so f (side.executed old s fetch.number fetch.instr)))
+  pub taken_commutes : (side : SideOf S) (line : Bool) (old : RegisterState) (s : S) → All s [] → ((width : Width) → All s (Fetch old.pc width ∷ [])) → side.step.base (f s) ≡ side.step.base s
+      → (enters line old ≡ false → (let fetch = fetched m side.step.arch old s in side.step.executed old (f s) fetch.number fetch.instr ≡ outcome_so f (side.step.executed old s fetch.number fetch.instr)))
       → side_taken m side line old (f s) ≡ outcome_so f (side_taken m side line old s)
   unfolding taken
   taken_commutes side line old s none fetch base executes = by_entry (enters line old) refl where
-    by_entry : (b : Bool) → enters line old ≡ b → (if b then carried_out m side.arch old (f s) (interrupt_meaning (side.base (f s)) old)
-        else let fetch = fetched m side.arch old (f s) in side.executed old (f s) fetch.number fetch.instr)
-        ≡ outcome_so f (if b then carried_out m side.arch old s (interrupt_meaning (side.base s) old)
-        else let fetch = fetched m side.arch old s in side.executed old s fetch.number fetch.instr)
+    by_entry : (b : Bool) → enters line old ≡ b → (if b then carried_out m side.step.arch old (f s) (interrupt_meaning (side.step.base (f s)) old)
+        else let fetch = fetched m side.step.arch old (f s) in side.step.executed old (f s) fetch.number fetch.instr)
+        ≡ outcome_so f (if b then carried_out m side.step.arch old s (interrupt_meaning (side.step.base s) old)
+        else let fetch = fetched m side.step.arch old s in side.step.executed old s fetch.number fetch.instr)
     by_entry true e =
-        ap (λ (base : ℕ). carried_out m side.arch old (f s) (interrupt_meaning base old)) base
-        ∙ carried_commutes side.arch old s (interrupt_meaning (side.base s) old) none
+        ap (λ (base : ℕ). carried_out m side.step.arch old (f s) (interrupt_meaning base old)) base
+        ∙ carried_commutes side.step.arch old s (interrupt_meaning (side.step.base s) old) none
     by_entry false e =
-        let same = fetched_commutes side.arch old s fetch in
-        ap (λ (number : ℕ). side.executed old (f s) number (fetched m side.arch old (f s)).instr) same.number
-        ∙ ap (side.executed old (f s) (fetched m side.arch old s).number) same.instr
+        let same = fetched_commutes side.step.arch old s fetch in
+        ap (λ (number : ℕ). side.step.executed old (f s) number (fetched m side.step.arch old (f s)).instr) same.number
+        ∙ ap (side.step.executed old (f s) (fetched m side.step.arch old s).number) same.instr
         ∙ executes e

@@ -1,42 +1,24 @@
-use Rattle.std.proofs.Common.{ℕ, Bool, true, false, if◌then◌else◌, Option, Some, None, refl}
-use Rattle.ds_base.specs.Accesses.{MemoryMachine}
-use Rattle.ds_base.specs.declared.processors.Proc.{Proc}
-use Rattle.ds_base.specs.declared.processors.Proc.TheVariants.{Nine, Seven}
-use Rattle.ds_base.specs.declared.ticks.Tick.{Tick}
-use Rattle.arm_words.specs.declared.instructions.Instr.{Instr}
-use Rattle.arm_core.specs.Conditions.{holds}
-use Rattle.arm_core.specs.Effects.{carried_out}
-use Rattle.arm_core.specs.Exceptions.{interrupt_meaning}
-use Rattle.arm_core.specs.Registers.{RegisterState}
-use Rattle.arm_core.specs.Steps.{Setting, enters, fetched}
-use Rattle.arm_exec.specs.Costs.{CostsSome}
+use Rattle.ds_machine.proofs.Words.{ℕ, Bool, true, false, if◌then◌else◌, Option, Some, None, refl, MemoryMachine, Proc, Nine, Seven, Tick, Instr}
+use Rattle.ds_machine.proofs.Words.{holds, carried_out, interrupt_meaning, RegisterState, Setting, enters, fetched, CostsSome, arm7, arm9, move_of}
+use Rattle.ds_machine.proofs.Words.{Moved, NineReach, nine_memory, seven_memory, SideOf, nine_side, seven_side, side_taken, side_waits, nine_executed}
+use Rattle.ds_machine.proofs.Words.{taken, MachineState, Cost, Halted, Left, in_ticks, line_of, nine_reach, outcome_of, seven_reach}
 use Rattle.arm_exec.proofs.Costs.{carried_out_costs, word_costs}
-use Rattle.arm7_exec.specs.Arm7.{arm7}
-use Rattle.arm9_exec.specs.Arm9.{arm9}
-use Rattle.arm9_exec.specs.Coprocessors.{move_of}
-use Rattle.arm9_exec.specs.declared.coprocessors.Moved.{Moved}
 use Rattle.arm9_exec.proofs.Costs.{moved_costs}
-use Rattle.ds_map.specs.Views.{NineReach, nine_memory, seven_memory}
-use Rattle.ds_machine.specs.PrivateSides.{SideOf, nine_side, seven_side, side_taken, side_waits}
-use Rattle.ds_machine.specs.Sides.{nine_executed, taken}
-use Rattle.ds_machine.specs.States.{MachineState}
 use Rattle.arm_core.specs.declared.outcomes.Stepped as arm
-use Rattle.arm_core.specs.declared.outcomes.Stepped.TheVariants.{Cost, Halted, Left}
-use Rattle.ds_machine.specs.Steps.{in_ticks, line_of, nine_reach, outcome_of, seven_reach}
 use Rattle.ds_machine.proofs.Ticks.{some_ticks}
 
 -- Every step of a processor costs a clock at least, since what it executes does.
 
 taken_costs : {S : Type 0} (memory : MemoryMachine S) (side : SideOf S)
-    → ((s : RegisterState) (state : S) (number : ℕ) (instr : Option Instr) → CostsSome (side.executed s state number instr).stepped)
+    → ((s : RegisterState) (state : S) (number : ℕ) (instr : Option Instr) → CostsSome (side.step.executed s state number instr).stepped)
     → (line : Bool) (s : RegisterState) (state : S) → CostsSome (side_taken memory side line s state).stepped
 unfolding taken
 taken_costs {S} memory side executed line s state = by_entry (enters line s) where
-  by_entry : (b : Bool) → CostsSome (if b then carried_out memory side.arch s state (interrupt_meaning (side.base state) s)
-      else let f = fetched memory side.arch s state in side.executed s state f.number f.instr).stepped
+  by_entry : (b : Bool) → CostsSome (if b then carried_out memory side.step.arch s state (interrupt_meaning (side.step.base state) s)
+      else let f = fetched memory side.step.arch s state in side.step.executed s state f.number f.instr).stepped
   by_entry true =
-      let setting : Setting = record { arch = side.arch; base = side.base state; in_rom = false } in carried_out_costs memory setting s state (interrupt_meaning (side.base state) s)
-  by_entry false = let f = fetched memory side.arch s state in executed s state f.number f.instr
+      let setting : Setting = record { arch = side.step.arch; base = side.step.base state; in_rom = false } in carried_out_costs memory setting s state (interrupt_meaning (side.step.base state) s)
+  by_entry false = let f = fetched memory side.step.arch s state in executed s state f.number f.instr
 
 nine_costs : (s : RegisterState) (r : NineReach) (number : ℕ) (instr : Option Instr) (move : Option Moved) → CostsSome (nine_executed s r number instr move).stepped
 nine_costs s r number instr None = word_costs nine_memory (arm9 r.cp15) s r number instr

@@ -1,18 +1,8 @@
-use Rattle.std.proofs.Common.{ℕ, ◌≡◌, ◌+◌, List, ◌∷◌, Option, Some, None, sym, ◌∙◌, ap, subst, []}
-use Rattle.std.proofs.lemmas.Option.{none-some}
-use Rattle.ds_base.specs.declared.keys.KeyLine.{KeyLine}
-use Rattle.ds_base.specs.declared.left_out.LeftOut.{LeftOut}
-use Rattle.ds_base.specs.declared.processors.Proc.{Proc}
-use Rattle.ds_base.specs.declared.ticks.Tick.{Tick}
-use Rattle.ds_map.specs.Moves.{next_unit}
-use Rattle.ds_runs.specs.Actors.{actor_of}
-use Rattle.ds_runs.specs.Runs.{IsLeast, MachineStep, Makes, Stops}
+use Rattle.ds_machine.proofs.Words.{ℕ, ◌≡◌, ◌+◌, List, ◌∷◌, Option, Some, None, sym, ◌∙◌, ap, subst, [], none-some, KeyLine, LeftOut, Proc, Tick}
+use Rattle.ds_machine.proofs.Words.{next_unit, actor_of, IsLeast, MachineStep, Makes, Stops, KeyScript, Video, Geometry, Dma, Processor, same_makes}
+use Rattle.ds_machine.proofs.Words.{not_both, channel_step, awake, Shown, after_event, after_geometry, after_line, due_by, dues_of, keys_due, step_by}
+use Rattle.ds_machine.proofs.Words.{reference_step, MachineState, counts_of}
 use Rattle.ds_runs.specs.declared.actors.Actor as actor
-use Rattle.ds_runs.specs.declared.actors.Actor.TheVariants.{KeyScript, Video, Geometry, Dma, Processor}
-use Rattle.ds_runs.proofs.RunLaws.{same_makes, not_both}
-use Rattle.ds_machine.specs.Channels.{channel_step}
-use Rattle.ds_machine.specs.Reference.{awake, Shown, after_event, after_geometry, after_line, due_by, dues_of, keys_due, step_by, reference_step}
-use Rattle.ds_machine.specs.States.{MachineState, counts_of}
 use Rattle.ds_machine.proofs.ChannelEvents.{channel_unchanged, channel_made, event_counts, unit_counts}
 use Rattle.ds_machine.proofs.DueTicks.{due_of_least}
 use Rattle.ds_machine.proofs.MachineSchedule.{awake_makes, awake_stops}

@@ -1,31 +1,20 @@
-use Rattle.std.proofs.Common.{ℕ, zero, suc, ◌≡◌, ◌<◌, ◌+◌, ◌%◌, ◌/◌, ◌^◌, ◌==◌, if◌then◌else◌, Bool, true, false, true≢false, List, [], ◌∷◌, length, Option, Some, None, Contains, refl, sym, ◌∙◌, ap, subst, arith}
-use Rattle.std.specs.Prelude.{IfSome, not, slice_index_or}
-use Rattle.ds_base.specs.Accesses.{Access, Fetch, MemoryMachine, Read, Write}
-use Rattle.ds_base.specs.Numbers.{aligned_down, width_bytes}
-use Rattle.ds_base.specs.declared.memories.Width.{Width}
-use Rattle.ds_base.specs.declared.memories.Width.TheVariants.{Byte, Half, Word}
-use Rattle.ds_base.specs.declared.processors.Arch.{Arch}
-use Rattle.ds_base.specs.declared.processors.Arch.TheVariants.{V4, V5}
-use Rattle.arm_words.specs.declared.instructions.Instr.{Instr}
-use Rattle.arm_words.specs.declared.instructions.Instr.TheVariants.{Bkpt, Coprocessor, Swi, ThumbBkpt, ThumbSwi}
-use Rattle.arm_words.specs.declared.operations.HalfOp.TheVariants.{Strh, Ldrh, Ldrsb, Ldrsh}
-use Rattle.arm_core.specs.Effects.{Meaning}
-use Rattle.arm_core.specs.Footprints.{span}
-use Rattle.arm_core.specs.Registers.{RegisterState}
-use Rattle.arm_core.specs.Steps.{fetched}
-use Rattle.arm_core.specs.Transfers.{load_meaning, signed_byte, signed_half}
-use Rattle.arm_core.specs.declared.addresses.Addressed.{Addressed}
-use Rattle.arm_ops.specs.Meanings.{access_made, access_meaning, accesses_by, single_transfer_meaning}
-use Rattle.arm_ops.specs.Operations.{is_other, loads, operation_of}
-use Rattle.arm_ops.specs.declared.operations.DataAccess.{DataAccess}
-use Rattle.arm_ops.specs.declared.operations.Operation.{Operation}
-use Rattle.arm_ops.specs.declared.operations.TransferOp.{TransferOp}
-use Rattle.arm_ops.specs.declared.operations.TransferOp.TheVariants.{WordOrByte, HalfOrSigned}
-use Rattle.arm_ops.proofs.Laws.{made_accesses, operation_means}
-use Rattle.ds_machine.specs.Private.{AllReachPrivate, ReachesPrivate, may_go_ahead}
-use Rattle.ds_machine.specs.Sides.{data_accesses, next_fetch}
-use Rattle.ds_machine.specs.PrivateSides.{SideOf}
-use Rattle.ds_machine.specs.Touching.{DataStays, GoesByWords, access_stays}
+use Rattle.ds_machine.proofs.Words.{count_ones, ◌&&◌, length-map, ℕ, zero, suc, ◌≡◌, ◌<◌, ◌+◌, ◌%◌, ◌/◌, ◌^◌, ◌==◌, if◌then◌else◌, Bool, true, false}
+use Rattle.ds_machine.proofs.Words.{true≢false, List, [], ◌∷◌, length, Option, Some, None, Contains, refl, sym, ◌∙◌, ap, subst, arith, IfSome, not}
+use Rattle.ds_machine.proofs.Words.{Access, Fetch, MemoryMachine, Read, Write, aligned_down, width_bytes, Width, Byte, Half, Word, Arch, V4, V5}
+use Rattle.ds_machine.proofs.Words.{Instr, Bkpt, Coprocessor, Swi, ThumbSwi, Strh, Ldrh, Ldrsb, Ldrsh, count_listed, list_bytes, listed_registers}
+use Rattle.ds_machine.proofs.Words.{lowest, moved_base, holds, Meaning, skipped, multiple_meaning, reached_bank, reads, stored_value, stores_new_base}
+use Rattle.ds_machine.proofs.Words.{transferred, writes, span, RegisterState, register, fetched, load_meaning, signed_byte, signed_half, Addressed}
+use Rattle.ds_machine.proofs.Words.{access_made, access_meaning, accesses_by, op_meaning, operation_meaning, single_transfer_meaning, is_decoded}
+use Rattle.ds_machine.proofs.Words.{is_other, loads, operation_of, DataAccess, Op, Operation, TransferOp, WordOrByte, HalfOrSigned, operation_means}
+use Rattle.ds_machine.proofs.Words.{run_is_decoded, AllReachPrivate, ReachesPrivate, may_go_ahead, data_accesses, next_fetch, SideOf, DataStays}
+use Rattle.ds_machine.proofs.Words.{GoesByWords}
+use Rattle.std.specs.Prelude.{map}
+use Rattle.std.specs.Prelude.{◌*◌, slice_index_or}
+use Rattle.arm_words.specs.declared.instructions.Instr.TheVariants.{ThumbBkpt}
+use Rattle.arm_ops.specs.declared.operations.Op.TheVariants.{Multiple}
+use Rattle.arm_ops.specs.declared.operations.RegisterList.{RegisterList}
+use Rattle.arm_ops.proofs.Laws.{made_accesses}
+use Rattle.ds_machine.specs.Touching.{access_stays}
 use Rattle.ds_machine.proofs.PrivatePlaces.{private_itself}
 
 -- What a decoded operation reaches, by the address of its access.
@@ -101,44 +90,113 @@ module _ {S : Type 0} (side : SideOf S) (state : S) (words : GoesByWords side) w
   made_reached arch s None low k = refl
   made_reached arch s (Some it) low k = reached_one (not (loads it.op)) it.to.address (access_meaning arch s it).accesses low (one_by arch s it.op it.rn it.rd it.to) k
 
+  -- words one behind the other
+  word_next : (at i : ℕ) → ((at + 4) % 2 ^ 32 + 4 * i) % 2 ^ 32 ≡ (at + 4 * suc i) % 2 ^ 32
+  word_next at i = omega arith
+
+  word_first : (writing : Bool) (at : ℕ) → at < 2 ^ 32 → side.is_private state writing false ((at + 4 * 0) % 2 ^ 32) ≡ true → side.is_private state writing false at ≡ true
+  word_first writing at lt h = (let e : (at + 4 * 0) % 2 ^ 32 ≡ at = omega (arith, lt) in subst (λ (n : ℕ). side.is_private state writing false n ≡ true) e h)
+
+  abbrev WordsStay : Bool → ℕ → ℕ → Type 0
+  WordsStay writing at count = (i : ℕ) → i < count → side.is_private state writing false ((at + 4 * i) % 2 ^ 32) ≡ true
+
+  words_next : (writing : Bool) (at count : ℕ) → WordsStay writing at (suc count) → WordsStay writing ((at + 4) % 2 ^ 32) count
+  words_next writing at count h = λ i lt. subst (λ (n : ℕ). side.is_private state writing false n ≡ true) (sym (word_next at i)) (h (suc i) (omega (arith, lt)))
+
+  reach_reads : (at : ℕ) (rs : List ℕ) → at < 2 ^ 32 → WordsStay false at (length rs) → AllReachPrivate side state (reads at rs)
+  reach_reads at [] lt h = tt
+  reach_reads at (r ∷ rs) lt h =
+      let first = word_first false at lt (h 0 (omega arith)) in (
+        λ byte c. words.same state false false byte at (same_word Word at byte lt c) ∙ first,
+        reach_reads ((at + 4) % 2 ^ 32) rs (omega arith) (words_next false at (length rs) h),
+      )
+
+  reach_writes : (at : ℕ) (values : List ℕ) → at < 2 ^ 32 → WordsStay true at (length values) → AllReachPrivate side state (writes at values)
+  reach_writes at [] lt h = tt
+  reach_writes at (value ∷ rest) lt h =
+      let first = word_first true at lt (h 0 (omega arith)) in (
+        λ byte c. words.same state true false byte at (same_word Word at byte lt c) ∙ first,
+        reach_writes ((at + 4) % 2 ^ 32) rest (omega arith) (words_next true at (length rest) h),
+      )
+
+  -- LDM and STM, where so many words are private as it names registers
+  module _ (arch : Arch) (s : RegisterState) (it : RegisterList) where
+    abbrev start : ℕ
+    start = lowest it.pre it.up (register s it.rn) (list_bytes it.list)
+
+    abbrev stored : ℕ → ℕ
+    stored = stored_value s (reached_bank s false) it.rn (it.write_back && not (it.rn == 15) && stores_new_base arch it.rn it.list)
+        (moved_base it.up (register s it.rn) (list_bytes it.list))
+
+    all_listed : (it.list == 0) ≡ false → it.list < 2 ^ 16 → length (listed_registers (transferred arch it.list)) ≡ count_ones it.list
+    all_listed some lt = ap (λ (n : ℕ). length (listed_registers n)) (same arch) ∙ count_listed it.list lt where
+      same : (arch : Arch) → transferred arch it.list ≡ it.list
+      same V4 = rw some refl
+      same V5 = refl
+
+    reach_by : (load : Bool) → start < 2 ^ 32 → WordsStay (not load) start (length (listed_registers (transferred arch it.list)))
+        → AllReachPrivate side state (multiple_meaning arch s it.pre it.up false it.write_back load it.rn it.list).accesses
+    reach_by true lt h = reach_reads start (listed_registers (transferred arch it.list)) lt h
+    reach_by false lt h =
+        let rs = listed_registers (transferred arch it.list) in
+        reach_writes start (map stored rs) lt (subst (WordsStay true start) (sym (length-map rs stored)) h)
+
+    pub reach_list : (operation : Operation) → operation.op ≡ Multiple it → (it.list == 0) ≡ false → it.list < 2 ^ 16 → start < 2 ^ 32
+        → WordsStay (not it.load) start (count_ones it.list) → AllReachPrivate side state (operation_meaning arch s operation).accesses
+    reach_list operation is some low lt h =
+        subst (λ (op : Op). AllReachPrivate side state (if holds operation.cond s.cpsr then op_meaning arch s op else skipped s).accesses) (sym is)
+        (by_holds (holds operation.cond s.cpsr)) where
+          by_holds : (b : Bool) → AllReachPrivate side state (if b then op_meaning arch s (Multiple it) else skipped s).accesses
+          by_holds true = reach_by it.load lt (subst (WordsStay (not it.load) start) (sym (all_listed some low)) h)
+          by_holds false = tt
+
 -- ---- what is decoded
 
-kind_known : (arch : Arch) (instr : Option Instr) → is_other (operation_of instr).op ≡ false → may_go_ahead arch instr ≡ true
-kind_known arch None h = absurd (true≢false h)
-kind_known arch (Some (Swi cond immed)) h = absurd (true≢false h)
-kind_known arch (Some (ThumbSwi immed)) h = absurd (true≢false h)
-kind_known arch (Some (Bkpt immed)) h = absurd (true≢false h)
-kind_known arch (Some (ThumbBkpt immed)) h = absurd (true≢false h)
-kind_known arch (Some (Coprocessor cond load op1 crn rd cp op2 crm)) h = absurd (true≢false h)
+kind_known : (arch : Arch) (instr : Option Instr) → is_decoded (operation_of instr).op ≡ true → may_go_ahead arch instr ≡ true
+kind_known arch None h = absurd (true≢false (sym h))
+kind_known arch (Some (Swi cond immed)) h = absurd (true≢false (sym h))
+kind_known arch (Some (ThumbSwi immed)) h = absurd (true≢false (sym h))
+kind_known arch (Some (Bkpt immed)) h = absurd (true≢false (sym h))
+kind_known arch (Some (ThumbBkpt immed)) h = absurd (true≢false (sym h))
+kind_known arch (Some (Coprocessor cond load op1 crn rd cp op2 crm)) h = absurd (true≢false (sym h))
 kind_known arch (Some _) h = refl
+
+meant_accesses : (arch : Arch) (base : ℕ) (s : RegisterState) (instr : Option Instr) → is_decoded (operation_of instr).op ≡ true
+    → data_accesses arch base s instr ≡ (operation_meaning arch s (operation_of instr)).accesses
+meant_accesses arch base s None h = absurd (true≢false (sym h))
+meant_accesses arch base s (Some instr) h = ap (λ (m : Meaning). m.accesses) (operation_means arch base s instr h)
 
 pub accesses_known : (arch : Arch) (base : ℕ) (s : RegisterState) (instr : Option Instr) → is_other (operation_of instr).op ≡ false
     → data_accesses arch base s instr ≡ accesses_by arch s (access_made s (operation_of instr))
-accesses_known arch base s None h = absurd (true≢false h)
-accesses_known arch base s (Some instr) h = ap (λ (m : Meaning). m.accesses) (operation_means arch base s instr h) ∙ made_accesses arch s (operation_of (Some instr))
+accesses_known arch base s instr h = meant_accesses arch base s instr (run_is_decoded (operation_of instr).op h) ∙ made_accesses arch s (operation_of instr) h
 
-pub stays_known : {S : Type 0} (memory : MemoryMachine S) (side : SideOf S) (state : S) (s : RegisterState) (op : Operation) → GoesByWords side
-    → op ≡ operation_of (fetched memory side.arch s state).instr → is_other op.op ≡ false → IfSome (access_made s op) (λ it. it.to.address < 2 ^ 32)
-    → access_stays side state (access_made s op) ≡ true → DataStays memory side s state
-stays_known memory side state s op words e known low h =
-    let instr = (fetched memory side.arch s state).instr in
-    let other = subst (λ (o : Operation). is_other o.op ≡ false) e known in
-    let l = subst (λ (o : Operation). IfSome (access_made s o) (λ it. it.to.address < 2 ^ 32)) e low in
-    let k = subst (λ (o : Operation). access_stays side state (access_made s o) ≡ true) e h in
+pub stays_known : {S : Type 0} (memory : MemoryMachine S) (side : SideOf S) (state : S) (s : RegisterState) (op : Operation)
+    → op ≡ operation_of (fetched memory side.step.arch s state).instr → is_decoded op.op ≡ true → AllReachPrivate side state (operation_meaning side.step.arch s op).accesses
+    → DataStays memory side s state
+stays_known memory side state s op e known reach =
+    let instr = (fetched memory side.step.arch s state).instr in
+    let there = subst (λ (o : Operation). is_decoded o.op ≡ true) e known in
     record {
-      kind = kind_known side.arch instr other;
-      accesses = subst (AllReachPrivate side state) (sym (accesses_known side.arch (side.base state) s instr other))
-          (reach_made side state words side.arch s (access_made s (operation_of instr)) l k);
+      kind = kind_known side.step.arch instr there;
+      accesses = subst (AllReachPrivate side state) (sym (meant_accesses side.step.arch (side.step.base state) s instr there))
+          (subst (λ (o : Operation). AllReachPrivate side state (operation_meaning side.step.arch s o).accesses) e reach);
     }
+
+-- what makes one access at most, by its address
+pub reach_told : {S : Type 0} (side : SideOf S) (state : S) (s : RegisterState) (op : Operation) → GoesByWords side
+    → (operation_meaning side.step.arch s op).accesses ≡ accesses_by side.step.arch s (access_made s op) → IfSome (access_made s op) (λ it. it.to.address < 2 ^ 32)
+    → access_stays side state (access_made s op) ≡ true → AllReachPrivate side state (operation_meaning side.step.arch s op).accesses
+reach_told side state s op words told low h =
+    subst (AllReachPrivate side state) (sym told) (reach_made side state words side.step.arch s (access_made s op) low h)
 
 -- what isn't decoded is never told to leave
 pub leaves_known : {S : Type 0} (memory : MemoryMachine S) (side : SideOf S) (state : S) (s : RegisterState) (op : Operation) → GoesByWords side
-    → op ≡ operation_of (fetched memory side.arch s state).instr → is_other op.op ≡ false → IfSome (access_made s op) (λ it. it.to.address < 2 ^ 32)
+    → op ≡ operation_of (fetched memory side.step.arch s state).instr → is_other op.op ≡ false → IfSome (access_made s op) (λ it. it.to.address < 2 ^ 32)
     → access_stays side state (access_made s op) ≡ false → DataStays memory side s state → ⊥
 leaves_known memory side state s op words e known low h stays =
-    let i = (fetched memory side.arch s state).instr in
+    let i = (fetched memory side.step.arch s state).instr in
     let other = subst (λ (o : Operation). is_other o.op ≡ false) e known in
     let l = subst (λ (o : Operation). IfSome (access_made s o) (λ it. it.to.address < 2 ^ 32)) e low in
-    let reached = made_reached side state words side.arch s (access_made s (operation_of i)) l
-    (subst (AllReachPrivate side state) (accesses_known side.arch (side.base state) s i other) stays.accesses) in
+    let reached = made_reached side state words side.step.arch s (access_made s (operation_of i)) l
+    (subst (AllReachPrivate side state) (accesses_known side.step.arch (side.step.base state) s i other) stays.accesses) in
     true≢false (sym (subst (λ (o : Operation). access_stays side state (access_made s o) ≡ true) (sym e) reached) ∙ h)

@@ -1,24 +1,11 @@
-use Rattle.std.proofs.Common.{ℕ, ◌≡◌, ◌<◌, ◌≤◌, ◌^◌, ◌⊎◌, inl, inr, ◌-◌, max, min, Bool, true, false, List, ◌∷◌, Option, Some, refl, sym, ◌∙◌, ap, subst, arith}
-use Rattle.ds_base.specs.declared.processors.Proc.{Proc}
-use Rattle.ds_base.specs.declared.processors.Proc.TheVariants.{Nine, Seven}
-use Rattle.ds_base.specs.declared.keys.KeyLine.{KeyLine}
-use Rattle.ds_base.specs.declared.ticks.Tick.{Tick}
-use Rattle.ds_ipc.specs.Ipcs.{other_proc}
-use Rattle.ds_ports.specs.Acting.{acting_io_dues}
-use Rattle.ds_ports.specs.Io.{IoState, is_held}
-use Rattle.ds_runs.specs.Actors.{actor_of}
-use Rattle.ds_runs.specs.Runs.{due_at}
-use Rattle.ds_machine.specs.Acting.{acting_dues}
-use Rattle.ds_machine.specs.Hearing.{Fences}
-use Rattle.ds_machine.specs.NextEvents.{IsNextEvent, acting_events_of, due_at_least, least_kept, least_of, limit_by, limit_in, past_other, due_put, wait_in, waits_until}
-use Rattle.ds_machine.specs.Private.{IsBelowFence, rank_of}
-use Rattle.ds_machine.specs.Reference.{due_unless, keys_due, processor_due}
-use Rattle.ds_machine.specs.States.{MachineState, ProcessorState}
-use Rattle.ds_machine.specs.Steps.{is_blocked, processor_of, tick_of}
-use Rattle.ds_machine.specs.TurnSteps.{ComesBeforeEvents, ComesFirst, HasEnds, HasLimit, IsTurnEnd, IsFirst, due_or_never}
-use Rattle.ds_machine.specs.declared.next_events.Ends.{Ends}
+use Rattle.ds_machine.proofs.Words.{ℕ, ◌≡◌, ◌<◌, ◌≤◌, ◌^◌, ◌⊎◌, inl, inr, ◌-◌, max, min, Bool, true, false, List, ◌∷◌, Option, Some, refl, sym, ◌∙◌}
+use Rattle.ds_machine.proofs.Words.{ap, subst, arith, Proc, Nine, Seven, KeyLine, Tick, other_proc, acting_io_dues, IoState, is_held, actor_of}
+use Rattle.ds_machine.proofs.Words.{due_at, acting_dues, Fences, IsNextEvent, acting_events_of, due_at_least, least_kept, least_of, past_other}
+use Rattle.ds_machine.proofs.Words.{IsBelowFence, rank_of, due_unless, keys_due, processor_due, MachineState, ProcessorState, is_blocked}
+use Rattle.ds_machine.proofs.Words.{processor_of, tick_of, ComesFirst, HasEnds, HasLimit, IsTurnEnd, due_or_never, Ends, NextEvent}
+use Rattle.ds_machine.specs.NextEvents.{limit_by, limit_in, due_put, wait_in, waits_until}
+use Rattle.ds_machine.specs.TurnLaws.{ComesBeforeEvents, IsFirst}
 use Rattle.ds_machine.specs.declared.next_events.First.{First}
-use Rattle.ds_machine.specs.declared.next_events.NextEvent.{NextEvent}
 use Rattle.ds_machine.proofs.ActingDues.{acting_low, acting_processor}
 use Rattle.ds_machine.proofs.DueTicks.{sort_rank}
 use Rattle.ds_machine.proofs.FastSteps.{ComesBefore, event_there, kept_is, wait_ends, wait_is}

@@ -1,34 +1,12 @@
-use Rattle.std.proofs.Common.{ℕ, zero, suc, ◌≡◌, ◌<◌, ◌≤◌, ◌^◌, ◌⊎◌, inl, inr, Bool, true, false, true≢false, if◌then◌else◌, List, [], ◌∷◌, ◌++◌, length, Option, Some, refl, sym, ◌∙◌, ap, subst, arith}
-use Rattle.std.specs.Prelude.{◌&&◌}
-use Rattle.std.proofs.lemmas.Option.{same_Some}
-use Rattle.ds_base.proofs.Choices.{lt_or_same}
-use Rattle.ds_base.specs.declared.keys.KeyLine.{KeyLine}
-use Rattle.ds_base.specs.declared.left_out.LeftOut.{LeftOut}
-use Rattle.ds_base.specs.declared.processors.Proc.{Proc}
-use Rattle.ds_base.specs.declared.processors.Proc.TheVariants.{Nine, Seven}
-use Rattle.ds_base.specs.declared.ticks.Due.{Due}
-use Rattle.ds_base.specs.declared.ticks.Tick.{Tick}
-use Rattle.arm_core.specs.declared.outcomes.Stepped.TheVariants.{Cost}
-use Rattle.ds_ipc.specs.Ipcs.{other_proc}
-use Rattle.ds_ports.specs.Acting.{acting_io_dues}
-use Rattle.ds_ports.specs.Happenings.{IsIo}
-use Rattle.ds_ports.specs.Io.{IoState, io_of, is_held, is_settled}
+use Rattle.ds_machine.proofs.Words.{ℕ, zero, suc, ◌≡◌, ◌<◌, ◌≤◌, ◌^◌, ◌⊎◌, inl, inr, Bool, true, false, true≢false, if◌then◌else◌, List, [], ◌∷◌}
+use Rattle.ds_machine.proofs.Words.{◌++◌, length, Option, Some, refl, sym, ◌∙◌, ap, subst, arith, ◌&&◌, same_Some, lt_or_same, KeyLine, LeftOut, Proc}
+use Rattle.ds_machine.proofs.Words.{Nine, Seven, Due, Tick, Cost, acting_io_dues, IsIo, IoState, io_of, is_held, is_settled, first_from, IsLeast}
+use Rattle.ds_machine.proofs.Words.{IsOver, Makes, MachineStep, due_at, Processor, first_is_least, line_is_up, shares_bit, acting_dues, IsNextEvent}
+use Rattle.ds_machine.proofs.Words.{acting_events_of, least_kept, least_of, due_at_least, Shown, awake, due_unless, keys_due, processor_due, step_by}
+use Rattle.ds_machine.proofs.Words.{AreAsleep, stepped_of, MachineState, ProcessorState, ended, machine_concluded, goes_on, is_blocked, line_of}
+use Rattle.ds_machine.proofs.Words.{outcome_of, processor_of, tick_of, wakes, went_on, with_io, with_processor, woken, woken_one, NextEvent}
 use Rattle.ds_ports.proofs.Settles.{settled_stays}
-use Rattle.ds_runs.specs.Order.{first_from}
-use Rattle.ds_runs.specs.Runs.{IsLeast, IsOver, Makes, MachineStep, due_at}
-use Rattle.ds_runs.specs.declared.actors.Actor.TheVariants.{Processor}
-use Rattle.ds_runs.proofs.Firsts.{first_is_least}
-use Rattle.ds_timers.specs.Irqs.{line_is_up, shares_bit}
-use Rattle.ds_machine.specs.Acting.{acting_dues}
-use Rattle.ds_machine.specs.NextEvents.{IsNextEvent, acting_events_of, least_kept, least_of, due_at_least}
-use Rattle.ds_machine.specs.Private.{rank_of}
-use Rattle.ds_machine.specs.Reference.{Shown, awake, due_unless, keys_due, processor_due, step_by}
-use Rattle.ds_machine.specs.Sound.{AreAsleep}
-use Rattle.ds_machine.specs.StepAnswers.{stepped_of}
-use Rattle.ds_machine.specs.States.{MachineState, ProcessorState}
-use Rattle.ds_machine.specs.Steps.{ended, machine_concluded, goes_on, is_blocked, line_of, outcome_of, processor_of, tick_of, wakes, went_on, with_io, with_processor, woken, woken_one}
 use Rattle.ds_machine.specs.declared.answers.Done.TheVariants as answers
-use Rattle.ds_machine.specs.declared.next_events.NextEvent.{NextEvent}
 use Rattle.ds_machine.proofs.ActingDues.{acting_low, acting_processor, acting_split}
 use Rattle.ds_machine.proofs.DueTicks.{due_then, sort_rank, tick_is}
 use Rattle.ds_machine.proofs.ProcessorSteps.{step_concluded}
@@ -112,11 +90,6 @@ due_there blocked least p n e w lt =
 abbrev pub ComesBefore : Proc → ℕ → ℕ → Type 0
 ComesBefore Nine n other = n ≤ other
 ComesBefore Seven n other = n < other
-
-pub processor_least : (proc : Proc) (s : MachineState) (until : ℕ) (tick : Tick) → IsOver (acting_events_of s) until → tick.0 < until → processor_due s proc ≡ Some tick
-    → ((at : Tick) → processor_due s (other_proc proc) ≡ Some at → ComesBefore proc tick.0 at.0) → IsLeast (acting_dues s) tick (rank_of proc)
-processor_least Nine s until tick over lt there after = nine_least s until tick over lt there after
-processor_least Seven s until tick over lt there after = seven_least s until tick over lt there after
 
 pub kept_is : (next_event : NextEvent) (s : MachineState) → IsNextEvent next_event s → (proc : Proc) → least_kept next_event proc ≡ least_of (is_blocked s proc)
 kept_is next_event s is Nine = is.nine_least

@@ -1,20 +1,10 @@
-use Rattle.std.proofs.Common.{ℕ, ◌≡◌, ◌<◌, ◌≤◌, ◌^◌, ◌⊎◌, inl, inr, Bool, false, Option, Some, refl, sym, ◌∙◌, ap, subst, arith}
-use Rattle.std.proofs.lemmas.Option.{same_Some}
-use Rattle.ds_base.specs.declared.processors.Proc.{Proc}
-use Rattle.ds_base.specs.declared.ticks.Tick.{Tick}
-use Rattle.arm_core.specs.declared.outcomes.Stepped.TheVariants.{Cost}
-use Rattle.ds_ports.specs.Happenings.{IsIo}
-use Rattle.ds_ports.specs.Io.{is_settled}
-use Rattle.ds_runs.specs.Runs.{IsLeast}
-use Rattle.ds_machine.specs.Acting.{acting_dues}
-use Rattle.ds_machine.specs.NextEvents.{GoesFast, IsNextEvent, TookStep}
-use Rattle.ds_machine.specs.Private.{IsAhead, rank_of}
-use Rattle.ds_machine.specs.Reference.{due_unless, processor_due}
-use Rattle.ds_machine.specs.States.{MachineState}
-use Rattle.ds_machine.specs.Steps.{outcome_of, processor_of, tick_of, went_on, with_processor}
-use Rattle.ds_machine.specs.Touching.{DataStaysNear}
-use Rattle.ds_machine.specs.TurnSteps.{BelongsToTurn, TakesSteps, more_steps, no_steps}
-use Rattle.ds_machine.specs.declared.next_events.NextEvent.{NextEvent}
+use Rattle.ds_machine.proofs.Words.{ℕ, ◌≡◌, ◌<◌, ◌≤◌, ◌^◌, ◌⊎◌, inl, inr, Bool, false, Option, Some, refl, sym, ◌∙◌, ap, subst, arith, same_Some}
+use Rattle.ds_machine.proofs.Words.{Proc, Tick, Cost, IsIo, is_settled, IsLeast, acting_dues, IsNextEvent, TookStep, IsAhead, rank_of, due_unless}
+use Rattle.ds_machine.proofs.Words.{processor_due, MachineState, outcome_of, processor_of, tick_of, went_on, with_processor, DataStaysNear}
+use Rattle.ds_machine.proofs.Words.{BelongsToTurn, TakesSteps, more_steps, no_steps, NextEvent}
+use Rattle.ds_machine.specs.NextEvents.{GoesFast, WentFast}
+use Rattle.ds_machine.specs.declared.going.Gone.{Gone}
+use Rattle.ds_machine.specs.declared.going.Gone.TheVariants.{List, Unknown}
 use Rattle.ds_machine.proofs.DueTicks.{own_tick}
 use Rattle.ds_machine.proofs.EndTicks.{LeavesOthers, end_stays, limit_stays}
 use Rattle.ds_machine.proofs.FastSteps.{asleep_by, cost_keeps, free_stays, made_fast, reach_beside, reach_keeps}
@@ -95,6 +85,12 @@ module _ (next_event : NextEvent) (s : MachineState) (proc : Proc) (until end li
       let took = took_when s next proc n until goes.running d lt early goes_now (near_unobserved s proc tick d.own near) made units script
       (other_stays proc tick s m next (went_on clocks false (processor_of m proc)) machine e) in
       (took, goes_after next took (cost_keeps next_event m next proc (went_on clocks false (processor_of m proc)) kept e))
+
+-- where none was taken, all is as it was
+pub untaken : (until : ℕ) (proc : Proc) (next_event : NextEvent) (end limit : ℕ) (old : MachineState) (gone : Gone) (new : MachineState)
+    → (gone ≡ Unknown) ⊎ (gone ≡ List) → WentFast until proc next_event end limit old gone new → new ≡ old
+untaken until proc next_event end limit old gone new (inl e) went = subst (λ (g : Gone). WentFast until proc next_event end limit old g new) e went
+untaken until proc next_event end limit old gone new (inr e) went = subst (λ (g : Gone). WentFast until proc next_event end limit old g new) e went
 
 -- ---- a loop over them: the steps so far were of the turn, and the next goes by the same
 

@@ -1,27 +1,12 @@
-use Rattle.std.proofs.Common.{ℕ, ◌≡◌, ◌<◌, ◌≤◌, [], ◌∷◌, ◌++◌, length, Option, Some, None, refl, sym, ◌∙◌, ap, subst, arith}
-use Rattle.std.proofs.lemmas.Option.{none-some, same_Some}
-use Rattle.ds_base.specs.declared.processors.Proc.{Proc}
-use Rattle.ds_base.specs.declared.processors.Proc.TheVariants.{Nine, Seven}
-use Rattle.ds_base.specs.declared.ticks.Due.{Due}
-use Rattle.ds_base.specs.declared.ticks.Tick.{Tick}
-use Rattle.ds_card.specs.Cards.{card_due_for, card_starter}
+use Rattle.ds_machine.proofs.Words.{ℕ, ◌≡◌, ◌<◌, ◌≤◌, [], ◌∷◌, ◌++◌, length, Option, Some, None, refl, sym, ◌∙◌, ap, subst, arith, none-some}
+use Rattle.ds_machine.proofs.Words.{same_Some, Proc, Nine, Seven, Due, Tick, card_due_for, card_starter, actor_of, due_with_rank, earlier, first_from}
+use Rattle.ds_machine.proofs.Words.{IsLeast, due_at, KeyScript, Video, Timer, Divider, SquareRoot, Geometry, Card, Dma, Processor, due_of_actor}
+use Rattle.ds_machine.proofs.Words.{first_is_least, first_of_append, least_unique, within, scan_due_tick, acting_due, acting_dues, fence_due, IsAhead}
+use Rattle.ds_machine.proofs.Words.{IsBelowFence, IsPrivate, rank_of, IsFence, Fences, keys_due, processor_due, MachineState}
 use Rattle.ds_card.proofs.Schedules.{due_for_starter, starter_of_due}
 use Rattle.ds_ports.specs.Acting.{acting_io_due}
-use Rattle.ds_runs.specs.Actors.{actor_of}
-use Rattle.ds_runs.specs.Order.{due_with_rank, earlier, first_from}
-use Rattle.ds_runs.specs.Runs.{IsLeast, due_at}
 use Rattle.ds_runs.specs.declared.actors.Actor as actor
-use Rattle.ds_runs.specs.declared.actors.Actor.TheVariants.{KeyScript, Video, Timer, Divider, SquareRoot, Geometry, Card, Dma, Processor}
-use Rattle.ds_runs.proofs.ActorTable.{due_of_actor}
-use Rattle.ds_runs.proofs.Firsts.{first_is_least, first_of_append}
-use Rattle.ds_runs.proofs.Lists.{least_unique, within}
-use Rattle.video2d.specs.Scans.{scan_due_tick}
-use Rattle.ds_machine.specs.Acting.{acting_due, acting_dues}
-use Rattle.ds_machine.specs.FenceTicks.{channel_dues, fence_due, fence_dues, timer_dues}
-use Rattle.ds_machine.specs.Private.{IsAhead, IsBelowFence, IsFence, IsPrivate, rank_of}
-use Rattle.ds_machine.specs.Hearing.{Fences}
-use Rattle.ds_machine.specs.Reference.{keys_due, processor_due}
-use Rattle.ds_machine.specs.States.{MachineState}
+use Rattle.ds_machine.specs.FenceTicks.{channel_dues, fence_dues, timer_dues}
 use Rattle.ds_machine.proofs.ActingDues.{acting_low, acting_of_rank, acting_processor}
 use Rattle.ds_machine.proofs.DueTicks.{alone, own_tick}
 

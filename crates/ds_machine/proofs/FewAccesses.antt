@@ -1,32 +1,20 @@
-use Rattle.std.proofs.Common.{ℕ, zero, suc, ◌≡◌, ◌≤◌, ◌+◌, ◌^◌, ◌%◌, ◌==◌, ◌&&◌, not, if◌then◌else◌, Bool, true, false, List, [], ◌∷◌, length, map, Option, Some, None, refl, ap, arith}
-use Rattle.std.proofs.lemmas.List.{length-map}
-use Rattle.ds_base.specs.Bits.{bit}
-use Rattle.ds_base.specs.declared.memories.Width.TheVariants.{Byte, Half}
-use Rattle.ds_base.specs.declared.processors.Arch.{Arch}
-use Rattle.ds_base.specs.declared.processors.Arch.TheVariants.{V4, V5}
-use Rattle.arm_words.specs.declared.instructions.Instr.{Instr}
-use Rattle.arm_words.specs.declared.instructions.Instr.TheVariants.{Bx, BlxRegister, Bkpt, Clz, Saturating, Smla, Smlaw, Smulw, Smlal, Smul, Mul, Mla, LongMultiply, Swap, HalfTransfer, Mrs, Msr, MsrImmediate, Compare, Move, Data, DoubleTransfer, Transfer, Multiple, Branch, Coprocessor, Swi, BlxTarget, Pld, Never, ThumbAddress, ThumbBlxSuffix, ThumbLoadLiteral, ThumbBranchIf, ThumbBranch, ThumbBlPrefix, ThumbBlSuffix}
-use Rattle.arm_words.specs.declared.operations.HalfOp.{HalfOp}
-use Rattle.arm_words.specs.declared.operations.HalfOp.TheVariants.{Strh, Ldrh, Ldrsb, Ldrsh}
-use Rattle.arm_core.specs.Addressing.{addressed, list_bytes, listed_from, listed_registers, lowest, moved_base, offset_value, short_offset_value}
-use Rattle.arm_core.specs.Conditions.{holds}
+use Rattle.ds_machine.proofs.Words.{ℕ, suc, ◌≡◌, ◌≤◌, ◌+◌, ◌^◌, ◌%◌, ◌==◌, if◌then◌else◌, Bool, true, false, List, [], ◌∷◌, length, map, Option, Some}
+use Rattle.ds_machine.proofs.Words.{None, refl, ap, arith, length-map, Byte, Half, Arch, V4, V5, Instr, Bx, BlxRegister, Bkpt, Clz, Saturating, Smla}
+use Rattle.ds_machine.proofs.Words.{Smlaw, Smulw, Smlal, Smul, Mul, Mla, LongMultiply, Swap, HalfTransfer, Mrs, Msr, MsrImmediate, Compare, Move}
+use Rattle.ds_machine.proofs.Words.{Data, DoubleTransfer, Transfer, Multiple, Branch, Coprocessor, Swi, Never, ThumbAddress, ThumbLoadLiteral}
+use Rattle.ds_machine.proofs.Words.{ThumbBranchIf, ThumbBranch, ThumbBlPrefix, ThumbBlSuffix, HalfOp, Strh, Ldrh, Ldrsb, Ldrsh, addressed, list_bytes}
+use Rattle.ds_machine.proofs.Words.{listed_registers, lowest, moved_base, offset_value, short_offset_value, holds, Meaning, enhanced_meaning}
+use Rattle.ds_machine.proofs.Words.{link_meaning, act, act_branch, act_multiply, act_processing, condition, skipped, multiple_meaning, reached_bank}
+use Rattle.ds_machine.proofs.Words.{reads, stored_value, stores_new_base, transferred, writes, RegisterState, register, equivalent}
+use Rattle.ds_machine.proofs.Words.{half_or_signed_meaning, load_meaning, signed_byte, signed_half, signed_half_meaning, word_or_byte_meaning}
+use Rattle.ds_machine.proofs.Words.{Addressed, op_meaning, operation_meaning, single_transfer_meaning, listed_within, DataAccess, Op, Operation}
+use Rattle.ds_machine.proofs.Words.{TransferOp, WordOrByte, HalfOrSigned}
+use Rattle.std.proofs.Common.{◌&&◌, not}
+use Rattle.arm_words.specs.declared.instructions.Instr.TheVariants.{BlxTarget, Pld, ThumbBlxSuffix}
 use Rattle.arm_core.specs.Doubles.{double_at}
-use Rattle.arm_core.specs.Effects.{Meaning}
-use Rattle.arm_core.specs.Enhanced.{enhanced_meaning, link_meaning}
-use Rattle.arm_core.specs.Meanings.{act, act_branch, act_multiply, act_processing, condition, skipped}
-use Rattle.arm_core.specs.Multiples.{multiple_meaning, reached_bank, reads, stored_value, stores_new_base, transferred, writes}
-use Rattle.arm_core.specs.Registers.{RegisterState, register}
 use Rattle.arm_core.specs.Swaps.{swap_meaning}
-use Rattle.arm_core.specs.Thumb.{equivalent}
-use Rattle.arm_core.specs.Transfers.{half_or_signed_meaning, load_meaning, signed_byte, signed_half, signed_half_meaning, word_or_byte_meaning}
-use Rattle.arm_core.specs.declared.addresses.Addressed.{Addressed}
-use Rattle.arm_ops.specs.Meanings.{access_of, computed, meaning_by, op_meaning, operation_meaning, single_transfer_meaning}
-use Rattle.arm_ops.specs.declared.operations.DataAccess.{DataAccess}
-use Rattle.arm_ops.specs.declared.operations.Op.{Op}
-use Rattle.arm_ops.specs.declared.operations.Op.TheVariants.{Plain}
-use Rattle.arm_ops.specs.declared.operations.Operation.{Operation}
-use Rattle.arm_ops.specs.declared.operations.TransferOp.{TransferOp}
-use Rattle.arm_ops.specs.declared.operations.TransferOp.TheVariants.{WordOrByte, HalfOrSigned}
+use Rattle.arm_ops.specs.Meanings.{access_of, computed, meaning_by}
+use Rattle.arm_ops.specs.declared.operations.Op.TheVariants as ops
 use Rattle.ds_machine.specs.Rooms.{InstructionsAreShort}
 
 -- An instruction makes sixteen accesses at most: a list names sixteen registers, and all others make two at most. So it is of operations.
@@ -48,15 +36,6 @@ either true m k p q = p
 either false m k p q = q
 
 -- ---- lists of registers
-
-at_most : (b : Bool) (r count : ℕ) (rest : List ℕ) → length rest ≤ count → length (if b then r ∷ rest else rest) ≤ suc count
-at_most true r count rest h = omega (arith, h)
-at_most false r count rest h = omega (arith, h)
-
-pub listed_within : (count r list : ℕ) → length (listed_from count r list) ≤ count
-unfolding listed_from
-listed_within zero r list = omega arith
-listed_within (suc count) r list = at_most (bit r list) r count (listed_from count (r + 1) list) (listed_within count (r + 1) list)
 
 as_many_reads : (at : ℕ) (rs : List ℕ) → length (reads at rs) ≡ length rs
 as_many_reads at [] = refl
@@ -176,7 +155,8 @@ instructions_are_short arch base s instr =
 
 module _ (arch : Arch) (s : RegisterState) where
   computed_short : (op : Op) → IsShort (computed arch s op)
-  computed_short (Plain instr) = processing_short arch 0 s instr
+  computed_short (ops.Plain instr) = processing_short arch 0 s instr
+  computed_short (ops.Multiple it) = multiple_short arch s it.pre it.up false it.write_back it.load it.rn it.list
   computed_short _ = none
 
   transfer_short : (op : TransferOp) (rn rd : ℕ) (to : Addressed) → IsShort (single_transfer_meaning arch s op rn rd to)

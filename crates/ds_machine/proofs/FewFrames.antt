@@ -1,19 +1,13 @@
-use Rattle.std.proofs.Common.{ℕ, ◌≡◌, ◌⊎◌, inl, inr, ◌≤◌, ◌<◌, ◌+◌, ◌*◌, List, [], ◌++◌, length, Option, Some, None, option_map, refl, sym, ◌∙◌, ap, subst, arith}
+use Rattle.ds_machine.proofs.Words.{ℕ, ◌≡◌, ◌⊎◌, inl, inr, ◌≤◌, ◌<◌, ◌+◌, ◌*◌, List, [], ◌++◌, length, Option, Some, None, option_map, refl, sym, ◌∙◌}
+use Rattle.ds_machine.proofs.Words.{ap, subst, arith, LeftOut, Tick, actor_of, Ending, IsLeast, Makes, Runs, more, over, stops, Video, FollowFrames}
+use Rattle.ds_machine.proofs.Words.{WholeFrame, framed_of, last_frame, Shown, due_by, dues_of, reference, reference_step, HasSoundParts, MachineState}
+use Rattle.ds_machine.proofs.Words.{ScanState, framed_by, scan_due, scan_due_tick}
 use Rattle.std.proofs.lemmas.List.{length-append}
-use Rattle.ds_base.specs.declared.left_out.LeftOut.{LeftOut}
-use Rattle.ds_base.specs.declared.ticks.Tick.{Tick}
-use Rattle.ds_runs.specs.Actors.{actor_of}
-use Rattle.ds_runs.specs.Runs.{Ending, IsLeast, Makes, Runs, more, over, stops}
 use Rattle.ds_runs.specs.declared.actors.Actor as actor
-use Rattle.ds_runs.specs.declared.actors.Actor.TheVariants.{Video}
-use Rattle.ds_machine.specs.Frames.{FollowFrames, FramesAreFew, WholeFrame, framed_of, last_frame}
-use Rattle.ds_machine.specs.Reference.{Shown, due_by, dues_of, reference, reference_step}
-use Rattle.ds_machine.specs.Sound.{HasSoundParts}
-use Rattle.ds_machine.specs.States.{MachineState}
+use Rattle.ds_machine.specs.FrameLaws.{FramesAreFew}
 use Rattle.ds_machine.proofs.Frames.{step_follows}
 use Rattle.ds_machine.proofs.MachineSchedule.{owes, steps_here}
 use Rattle.ds_machine.proofs.StepsMay.{answers_as}
-use Rattle.video2d.specs.Scans.{ScanState, framed_by, scan_due, scan_due_tick}
 
 -- Frames come 1,120,380 ticks apart.
 

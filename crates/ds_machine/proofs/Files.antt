@@ -1,33 +1,17 @@
-use Rattle.std.proofs.Common.{ℕ, ◌≡◌, ◌≤◌, ◌^◌, inl, inr, Bool, true, false, true≢false, if◌then◌else◌, List, Option, Some, None, refl, sym, ◌∙◌, ap, subst, arith, []}
-use Rattle.arm_core.specs.Saved.{AreRegisters}
-use Rattle.ds_base.specs.declared.processors.Proc.{Proc}
-use Rattle.ds_base.specs.declared.processors.Proc.TheVariants.{Nine, Seven}
-use Rattle.ds_base.specs.declared.ticks.Tick.{Tick}
-use Rattle.ds_base.proofs.Choices.{true_or_false}
-use Rattle.ds_ports.specs.Io.{io_event}
-use Rattle.ds_runs.specs.Actors.{actor_of}
-use Rattle.ds_runs.specs.Runs.{MachineStep, Makes, Stops}
+use Rattle.ds_machine.proofs.Words.{ℕ, ◌≡◌, ◌≤◌, ◌^◌, inl, inr, Bool, true, false, true≢false, if◌then◌else◌, List, Option, Some, None, refl, sym}
+use Rattle.ds_machine.proofs.Words.{◌∙◌, ap, subst, arith, [], AreRegisters, Proc, Nine, Seven, Tick, true_or_false, io_event, actor_of, MachineStep}
+use Rattle.ds_machine.proofs.Words.{Makes, Stops, KeyScript, Card, Dma, Processor, LeftOut, acting_dues, HasMachineBounds, one_event, RunsWithSome}
+use Rattle.ds_machine.proofs.Words.{last_limit, ActsUnobserving, CatchesUp, CatchesUpFor, CatchesUpIf, ComesBeforeAll, TakesGeometry, observes_by}
+use Rattle.ds_machine.proofs.Words.{IsAhead, IsBelowFence, IsPrivate, rank_of, Shown, after_event, awake, due_by, dues_of, processor_due}
+use Rattle.ds_machine.proofs.Words.{reference_step, step_by, HasSoundParts, IsSound, MachineState, with_file, HasBothStatuses, left_by, Steps}
+use Rattle.ds_machine.proofs.Words.{stepped_of, ended, goes_on, machine_settled, processor_of, tick_of, wakes, with_io, woken_one, CartFile}
+use Rattle.ds_machine.proofs.Words.{machine_graft, step_with, untouched_by, BelongsToTurn, TakesSteps, more_steps, no_steps, HasEnds, HasLimit}
+use Rattle.ds_machine.proofs.Words.{IsTurnEnd, MayAct, MayStep, due_or_never, Ends}
 use Rattle.ds_runs.specs.declared.actors.Actor as actor
-use Rattle.ds_runs.specs.declared.actors.Actor.TheVariants.{KeyScript, Card, Dma, Processor}
-use Rattle.ds_base.specs.declared.left_out.LeftOut.{LeftOut}
-use Rattle.ds_machine.specs.Acting.{acting_dues}
-use Rattle.ds_machine.specs.Back.{HasMachineBounds}
-use Rattle.ds_machine.specs.Channels.{one_event}
-use Rattle.ds_machine.specs.Counting.{RunsWithSome, last_limit}
 use Rattle.ds_machine.specs.Lagging as lagging
-use Rattle.ds_machine.specs.Lagging.{ActsUnobserving, CatchesUp, CatchesUpFor, CatchesUpIf, ComesBeforeAll, TakesGeometry, observes_by}
-use Rattle.ds_machine.specs.Private.{IsAhead, IsBelowFence, IsPrivate, rank_of}
-use Rattle.ds_machine.specs.Reference.{Shown, after_event, awake, due_by, dues_of, processor_due, reference_step, step_by}
-use Rattle.ds_machine.specs.Sound.{HasSoundParts, IsSound}
-use Rattle.ds_machine.specs.States.{MachineState, with_file}
-use Rattle.ds_machine.specs.Statuses.{HasBothStatuses, left_by}
-use Rattle.ds_machine.specs.StepAnswers.{Steps, stepped_of}
-use Rattle.ds_machine.specs.Steps.{ended, goes_on, machine_settled, processor_of, tick_of, wakes, with_io, woken_one}
-use Rattle.ds_machine.specs.Touched.{CartFile, StepsKeepFile, machine_graft, step_with, untouched_by}
-use Rattle.ds_machine.specs.TurnSteps.{BelongsToTurn, HasEnds, HasLimit, IsTurnEnd, MayAct, MayStep, TakesSteps, due_or_never, more_steps, no_steps}
+use Rattle.ds_machine.specs.Touched.{StepsKeepFile}
 use Rattle.ds_machine.specs.declared.answers.Done as answer
 use Rattle.ds_machine.specs.declared.answers.Done.TheVariants as answers
-use Rattle.ds_machine.specs.declared.next_events.Ends.{Ends}
 use Rattle.ds_machine.proofs.Apart.{picked}
 use Rattle.ds_machine.proofs.FenceFirsts.{fences_as}
 use Rattle.ds_machine.proofs.Running.{running_taken, steps_keep_running}

@@ -1,41 +1,28 @@
 use Rattle.std.specs.Prelude.{◌==◌}
-use Rattle.std.proofs.Common.{ℕ, ◌≡◌, ◌<◌, Bool, true, false, true≢false, if◌then◌else◌, List, [], ◌∷◌, Option, Some, None, option_map, refl, sym, ◌∙◌, ap, subst, arith}
-use Rattle.std.specs.List.{last_or}
-use Rattle.ds_base.specs.declared.left_out.LeftOut.{LeftOut}
-use Rattle.ds_base.specs.declared.left_out.Stop.{Stop}
-use Rattle.ds_base.specs.declared.processors.Proc.{Proc}
-use Rattle.ds_base.specs.declared.processors.Proc.TheVariants.{Nine, Seven}
-use Rattle.ds_base.specs.declared.ticks.Tick.{Tick}
+use Rattle.ds_machine.proofs.Words.{ℕ, ◌≡◌, ◌<◌, Bool, true, false, true≢false, if◌then◌else◌, List, [], ◌∷◌, Option, Some, None, option_map, refl}
+use Rattle.ds_machine.proofs.Words.{sym, ◌∙◌, ap, subst, arith, last_or, LeftOut, Stop, Proc, Nine, Seven, Tick, Cost, Halted, Left, next_unit}
+use Rattle.ds_machine.proofs.Words.{unit_refusal, unit_moved, io_due, Goes, IoState, video_done, complete_command, GxState, done_by, Swapped}
+use Rattle.ds_machine.proofs.Words.{geometry_after, GeometryCommand, actor_of, MachineStep, Makes, Stops, KeyScript, Video, Timer, Geometry, Dma}
+use Rattle.ds_machine.proofs.Words.{Processor, same_makes, not_both, channel_step, moved_by, FollowFrames, FollowLists, WholeFrame, frames_shown}
+use Rattle.ds_machine.proofs.Words.{framed_of, last_frame, last_lists, lists_shown, Shown, after_event, after_geometry, after_line, after_video}
+use Rattle.ds_machine.proofs.Words.{due_by, reference_step, shown_at, step_by, swapped_if, video_step, MachineState, left_by, ended, gone_by}
+use Rattle.ds_machine.proofs.Words.{machine_concluded, map_of, with_map, machine_graft, unchanged_by, ScanState, framed_by, scan_due, scan_due_tick}
+use Rattle.ds_machine.proofs.Words.{starts_vblank, VideoState, answer_unless, video_shown, video_stop}
 use Rattle.arm_core.specs.declared.outcomes.Stepped as arm
-use Rattle.arm_core.specs.declared.outcomes.Stepped.TheVariants.{Cost, Halted, Left}
-use Rattle.ds_map.specs.Moves.{next_unit, unit_refusal, unit_moved}
-use Rattle.ds_ports.specs.Dues.{io_due}
-use Rattle.ds_ports.specs.Happenings.{Goes}
-use Rattle.ds_ports.specs.Io.{IoState, geometry_done, video_done}
-use Rattle.gx_fifo.specs.Entries.{begun, complete_command}
-use Rattle.gx_fifo.specs.GxStates.{GxState, done_by, gx_swapped}
-use Rattle.gx_geometry.specs.States.{Swapped, geometry_after, swapped}
-use Rattle.gx_matrix.specs.declared.commands.GeometryCommand.{GeometryCommand}
+use Rattle.ds_ports.specs.Io.{geometry_done}
+use Rattle.gx_fifo.specs.Entries.{begun}
+use Rattle.gx_fifo.specs.GxStates.{gx_swapped}
+use Rattle.gx_geometry.specs.States.{swapped}
 use Rattle.ds_ports.proofs.Events.{done_video, happened_scan, happened_whole}
-use Rattle.ds_runs.specs.Actors.{actor_of}
-use Rattle.ds_runs.specs.Runs.{MachineStep, Makes, Stops}
 use Rattle.ds_runs.specs.declared.actors.Actor as actor
-use Rattle.ds_runs.specs.declared.actors.Actor.TheVariants.{KeyScript, Video, Timer, Geometry, Dma, Processor}
-use Rattle.ds_runs.proofs.RunLaws.{same_makes, not_both}
-use Rattle.ds_machine.specs.Channels.{channel_step, moved_by}
-use Rattle.ds_machine.specs.Frames.{FollowFrames, FollowLists, StepsFollowFrames, StepsFollowLists, StopsLeaveFrames, StopsLeaveLists, WholeFrame, frames_shown, framed_of, last_frame, last_lists, lists_shown}
-use Rattle.ds_machine.specs.Reference.{Shown, after_event, after_geometry, after_line, after_video, due_by, reference_step, shown_at, step_by, swapped_if, video_step}
-use Rattle.ds_machine.specs.States.{MachineState}
-use Rattle.ds_machine.specs.Statuses.{left_by}
-use Rattle.ds_machine.specs.Steps.{ended, gone_by, machine_concluded, map_of, with_map}
+use Rattle.ds_machine.specs.FrameLaws.{StepsFollowFrames, StepsFollowLists, StopsLeaveFrames, StopsLeaveLists}
 use Rattle.ds_machine.proofs.ChannelEvents.{channel_made, channel_unchanged, read_left, unit_lists, unit_video, unit_whole}
 use Rattle.ds_machine.proofs.MachineSchedule.{Steps, awake_stops, channel_timers, operation, step_made_as, steps_here}
 use Rattle.ds_machine.proofs.ProcessorSteps.{Took, came_by, concluded_stops, concludes, costs_some, goes, reached_by, step_is}
-use Rattle.ds_machine.specs.Touched.{machine_graft, unchanged_by}
 use Rattle.ds_machine.proofs.Touched.{each_touches}
 use Rattle.ds_machine.proofs.VideoEvents.{display_video, done_gx, ended_leaves, video_makes, video_stops}
-use Rattle.video2d.specs.Scans.{ScanState, framed_by, scan_after, scan_due, scan_due_tick, starts_vblank}
-use Rattle.video2d.specs.Videos.{VideoState, answer_unless, video_happened, video_shown, video_stop}
+use Rattle.video2d.specs.Scans.{scan_after}
+use Rattle.video2d.specs.Videos.{video_happened}
 use Rattle.video2d.proofs.Framed.{made_whole, stays_whole}
 
 -- The frames that a run puts out are its machines' last whole frames, one after another.

@@ -1,12 +1,5 @@
-use Rattle.std.proofs.Common.{ℕ, ◌≡◌, ◌<◌, ◌≤◌, ◌⊎◌, inl, inr, Some, sym, ◌∙◌, ap, subst, arith}
-use Rattle.std.proofs.lemmas.Option.{same_Some}
-use Rattle.ds_base.proofs.Choices.{low_or_high}
-use Rattle.ds_base.specs.declared.ticks.Tick.{Tick}
-use Rattle.ds_runs.specs.Runs.{IsLeast, due_at}
-use Rattle.ds_machine.specs.Acting.{acting_dues}
-use Rattle.ds_machine.specs.Lagging.{ComesBeforeAll}
-use Rattle.ds_machine.specs.Reference.{dues_of}
-use Rattle.ds_machine.specs.States.{MachineState}
+use Rattle.ds_machine.proofs.Words.{ℕ, ◌≡◌, ◌<◌, ◌≤◌, ◌⊎◌, inl, inr, Some, sym, ◌∙◌, ap, subst, arith, same_Some, low_or_high, Tick, IsLeast, due_at}
+use Rattle.ds_machine.proofs.Words.{acting_dues, ComesBeforeAll, dues_of, MachineState}
 use Rattle.ds_machine.proofs.ActingDues.{acts_then}
 use Rattle.ds_machine.proofs.DueTicks.{due_of_rank}
 

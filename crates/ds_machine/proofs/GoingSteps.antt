@@ -1,35 +1,17 @@
-use Rattle.std.proofs.Common.{ℕ, ◌≡◌, ◌≢◌, ◌<◌, ◌≤◌, ◌-◌, ◌^◌, ◌⊎◌, inl, inr, if◌then◌else◌, Bool, true, false, List, ◌∷◌, Option, Some, refl, sym, ◌∙◌, ap, subst, arith, []}
-use Rattle.std.proofs.lemmas.Option.{same_Some}
-use Rattle.ds_base.proofs.Choices.{lt_or_same, same_or_not}
-use Rattle.ds_base.specs.declared.processors.Proc.{Proc}
-use Rattle.ds_base.specs.declared.processors.Proc.TheVariants.{Nine, Seven}
-use Rattle.ds_base.specs.declared.ticks.Tick.{Tick}
-use Rattle.ds_base.specs.declared.memories.Width.{Width}
-use Rattle.ds_base.specs.declared.memories.Width.TheVariants.{Half, Word}
-use Rattle.arm_core.specs.Registers.{RegisterState, is_thumb}
-use Rattle.ds_ipc.specs.Ipcs.{other_proc}
-use Rattle.ds_runs.specs.Actors.{actor_of}
-use Rattle.ds_runs.specs.Runs.{IsLeast, Makes, due_at}
+use Rattle.ds_machine.proofs.Words.{ℕ, ◌≡◌, ◌≢◌, ◌<◌, ◌≤◌, ◌-◌, ◌^◌, ◌⊎◌, inl, inr, if◌then◌else◌, Bool, true, false, List, ◌∷◌, Option, Some, refl}
+use Rattle.ds_machine.proofs.Words.{sym, ◌∙◌, ap, subst, arith, [], same_Some, lt_or_same, same_or_not, Proc, Nine, Seven, Tick, Width, Half, Word}
+use Rattle.ds_machine.proofs.Words.{RegisterState, is_thumb, other_proc, actor_of, IsLeast, Makes, due_at, Processor, within, acting_dues}
+use Rattle.ds_machine.proofs.Words.{CatchesUpFor, CatchesUpIf, TakesGeometry, observes_by, IsNextEvent, TookStep, acting_events_of, least_of}
+use Rattle.ds_machine.proofs.Words.{past_other, IsAhead, IsBelowFence, ProcessorStaysPrivate, rank_of, BelongsToTurn, TakesSteps, more_steps}
+use Rattle.ds_machine.proofs.Words.{no_steps, ComesFirst, HasLimit, MayStep, Fences, geometry_rank, awake, due_unless, processor_due, step_by}
+use Rattle.ds_machine.proofs.Words.{stepped_of, RunsWithSome, MachineState, ProcessorState, HasBothStatuses, nine_side, seven_side, is_blocked}
+use Rattle.ds_machine.proofs.Words.{line_of, nine_reach, outcome_of, processor_of, seven_reach, tick_of, with_processor, FetchStaysPrivate}
+use Rattle.ds_machine.proofs.Words.{is_private_to, NextEvent}
 use Rattle.ds_runs.specs.declared.actors.Actor as actor
-use Rattle.ds_runs.specs.declared.actors.Actor.TheVariants.{Processor}
-use Rattle.ds_runs.proofs.Lists.{within}
-use Rattle.ds_machine.specs.Acting.{acting_dues}
 use Rattle.ds_machine.specs.Lagging as geometry
-use Rattle.ds_machine.specs.Lagging.{CatchesUpFor, CatchesUpIf, TakesGeometry, observes_by}
-use Rattle.ds_machine.specs.NextEvents.{IsNextEvent, TookStep, acting_events_of, least_of, line_kept, past_other}
-use Rattle.ds_machine.specs.Private.{IsAhead, IsBelowFence, ProcessorStaysPrivate, rank_of}
-use Rattle.ds_machine.specs.TurnSteps.{BelongsToTurn, ComesFirst, HasLimit, MayStep, TakesSteps, more_steps, no_steps}
-use Rattle.ds_machine.specs.Hearing.{Fences, geometry_rank}
-use Rattle.ds_machine.specs.Reference.{awake, due_unless, processor_due, step_by}
-use Rattle.ds_machine.specs.StepAnswers.{stepped_of}
-use Rattle.ds_machine.specs.Counting.{RunsWithSome}
-use Rattle.ds_machine.specs.States.{MachineState, ProcessorState}
-use Rattle.ds_machine.specs.Statuses.{HasBothStatuses}
-use Rattle.ds_machine.specs.PrivateSides.{nine_side, seven_side}
-use Rattle.ds_machine.specs.Steps.{is_blocked, line_of, nine_reach, outcome_of, processor_of, seven_reach, tick_of, with_processor}
-use Rattle.ds_machine.specs.Touching.{DataStaysPrivate, FetchStaysPrivate, MayBeAhead, is_private_to}
+use Rattle.ds_machine.specs.NextEvents.{line_kept}
+use Rattle.ds_machine.specs.Touching.{DataStaysPrivate, MayBeAhead}
 use Rattle.ds_machine.specs.declared.answers.Done.TheVariants as answers
-use Rattle.ds_machine.specs.declared.next_events.NextEvent.{NextEvent}
 use Rattle.ds_machine.proofs.ActingDues.{acting_processor, acting_split}
 use Rattle.ds_machine.proofs.DueTicks.{rank_there, steps_as}
 use Rattle.ds_machine.proofs.DecodedStays.{fetch_by_words}

@@ -1,47 +1,16 @@
-use Rattle.std.proofs.Common.{ℕ, ◌≡◌, ◌≤◌, nat_lt, if◌then◌else◌, Bool, true, false, List, [], ◌∷◌, Option, Some, None, refl, ◌∙◌, ap, arith}
-use Rattle.std.proofs.lemmas.Bool.{or_parts}
-use Rattle.ds_base.specs.Accesses.{Access, Fetch, Performed, Read, Write, perform, refused_or, with_value}
-use Rattle.ds_base.specs.declared.left_out.Stop.{Stop}
-use Rattle.ds_base.specs.declared.memories.Width.{Width}
-use Rattle.ds_base.specs.declared.processors.Arch.TheVariants.{V5}
-use Rattle.ds_base.specs.declared.processors.Proc.{Proc}
-use Rattle.ds_base.specs.declared.processors.Proc.TheVariants.{Nine, Seven}
-use Rattle.ds_base.specs.declared.ticks.Tick.{Tick}
-use Rattle.arm_words.specs.Parts.{condition_of}
-use Rattle.arm_words.specs.declared.instructions.Instr.{Instr}
-use Rattle.arm_core.specs.Conditions.{holds}
-use Rattle.arm_core.specs.Effects.{Meaning, carried_out, concluded}
-use Rattle.arm_core.specs.Exceptions.{undefined_meaning}
-use Rattle.arm_core.specs.Meanings.{meaning, skipped}
-use Rattle.arm_core.specs.Registers.{RegisterState}
-use Rattle.arm_core.specs.Steps.{Setting, executed_unless, executed_word, stop_of}
-use Rattle.arm_ops.specs.Meanings.{RefusesNoneInRam, operation_meaning}
-use Rattle.arm_ops.specs.declared.operations.Operation.{Operation}
-use Rattle.arm9_exec.specs.Arm9.{arm9}
-use Rattle.arm9_exec.specs.Coprocessors.{move_of}
-use Rattle.cp15_tcm.specs.Registers.{vectors_of}
-use Rattle.cp15_tcm.specs.TightlyCoupled.{tcm_of}
-use Rattle.cp15_tcm.specs.declared.answers.Tcm.{Tcm}
-use Rattle.cp15_tcm.specs.declared.answers.Tcm.TheVariants.{Itcm, Dtcm, Past}
-use Rattle.ds_dma.specs.States.{channel_due}
-use Rattle.ds_map.specs.Accesses.{map_refusal}
-use Rattle.ds_map.specs.Guards.{guarded_memory, is_guarded, tcm_guarded_refusal}
-use Rattle.ds_map.specs.Maps.{MapState}
-use Rattle.ds_map.specs.Views.{NineReach, nine_memory, tcm_refusal}
-use Rattle.ds_map.proofs.Guards.{nine_refusal, nine_written, room_meets_none}
-use Rattle.ds_ports.specs.Dues.{io_due}
+use Rattle.ds_machine.proofs.Words.{ℕ, ◌≡◌, ◌≤◌, nat_lt, if◌then◌else◌, Bool, true, false, List, [], ◌∷◌, Option, Some, None, refl, ◌∙◌, ap, arith}
+use Rattle.ds_machine.proofs.Words.{or_parts, Access, Fetch, Performed, Read, Write, perform, refused_or, with_value, Stop, Width, V5, Proc, Nine}
+use Rattle.ds_machine.proofs.Words.{Seven, Tick, condition_of, Instr, holds, Meaning, carried_out, concluded, undefined_meaning, meaning, skipped}
+use Rattle.ds_machine.proofs.Words.{RegisterState, Setting, executed_unless, executed_word, stop_of, RefusesNoneInRam, operation_meaning, Operation}
+use Rattle.ds_machine.proofs.Words.{arm9, move_of, vectors_of, tcm_of, Tcm, Itcm, Dtcm, Past, channel_due, map_refusal, guarded_memory, is_guarded}
+use Rattle.ds_machine.proofs.Words.{MapState, NineReach, nine_memory, tcm_refusal, nine_refusal, nine_written, io_due, IoState, blocks_processor, Dma}
+use Rattle.ds_machine.proofs.Words.{Processor, is_stalled, waiting_entries, IsFree, due_by, FindsRoom, nine_executed, HasSoundParts, MachineState}
+use Rattle.ds_machine.proofs.Words.{is_blocked, processor_of}
+use Rattle.ds_map.specs.Guards.{tcm_guarded_refusal}
+use Rattle.ds_map.proofs.Guards.{room_meets_none}
 use Rattle.ds_ports.specs.Guards.{is_overfull}
-use Rattle.ds_ports.specs.Io.{IoState}
-use Rattle.ds_ports.specs.ProcessorIo.{blocks_processor}
-use Rattle.ds_runs.specs.declared.actors.Actor.TheVariants.{Dma, Processor}
-use Rattle.gx_fifo.specs.GxStates.{is_stalled, waiting_entries}
-use Rattle.ds_machine.specs.GuardedSteps.{IsFree, IsFreeFor}
-use Rattle.ds_machine.specs.Reference.{due_by}
-use Rattle.ds_machine.specs.Rooms.{FindsRoom, HasRoom}
-use Rattle.ds_machine.specs.Sides.{nine_executed}
-use Rattle.ds_machine.specs.Sound.{HasSoundParts}
-use Rattle.ds_machine.specs.States.{MachineState}
-use Rattle.ds_machine.specs.Steps.{is_blocked, processor_of}
+use Rattle.ds_machine.specs.GuardedSteps.{IsFreeFor}
+use Rattle.ds_machine.specs.Rooms.{HasRoom}
 use Rattle.ds_machine.proofs.DueTicks.{due_then}
 use Rattle.ds_machine.proofs.FewAccesses.{operations_are_short}
 use Rattle.ds_machine.proofs.RamAccesses.{nine_refuses_none}

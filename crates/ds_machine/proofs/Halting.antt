@@ -1,30 +1,15 @@
-use Rattle.std.proofs.Common.{ℕ, ◌≡◌, ◌⊎◌, inl, inr, Bool, true, false, true≢false, if◌then◌else◌, List, [], ◌∷◌, Option, max, refl, sym, ◌∙◌, ap, subst}
-use Rattle.std.specs.Prelude.{◌&&◌, not}
+use Rattle.ds_machine.proofs.Words.{ℕ, ◌≡◌, ◌⊎◌, inl, inr, Bool, true, false, true≢false, if◌then◌else◌, List, [], ◌∷◌, Option, max, refl, sym, ◌∙◌}
+use Rattle.ds_machine.proofs.Words.{ap, subst, ◌&&◌, not, Cost, Halted, Left, KeyLine, LeftOut, Proc, Nine, Seven, Tick, other_proc, next_unit}
+use Rattle.ds_machine.proofs.Words.{IoState, io_at_boot, io_of, stall_ends, tick_after, Happens, event_goes, keys_happen, of_both, same_makes}
+use Rattle.ds_machine.proofs.Words.{actor_of, At, Ending, IsLeast, Makes, Runs, over, stops, more, KeyScript, Video, Geometry, Dma, Processor}
+use Rattle.ds_machine.proofs.Words.{channel_step, Shown, after_event, after_geometry, after_line, after_video, display_done, dues_of, reference}
+use Rattle.ds_machine.proofs.Words.{reference_step, step_by, HasSoundParts, MachineState, ProcessorState, ended, gone_by, goes_on, is_halted}
+use Rattle.ds_machine.proofs.Words.{machine_settled, processor_of, wakes, woken, woken_one, scan_due_tick}
 use Rattle.arm_core.specs.declared.outcomes.Stepped as arm
-use Rattle.arm_core.specs.declared.outcomes.Stepped.TheVariants.{Cost, Halted, Left}
-use Rattle.ds_base.specs.declared.keys.KeyLine.{KeyLine}
-use Rattle.ds_base.specs.declared.left_out.LeftOut.{LeftOut}
-use Rattle.ds_base.specs.declared.processors.Proc.{Proc}
-use Rattle.ds_base.specs.declared.processors.Proc.TheVariants.{Nine, Seven}
-use Rattle.ds_base.specs.declared.ticks.Tick.{Tick}
 use Rattle.ds_dma.specs.declared.channels.Unit.{Unit as DmaUnit}
-use Rattle.ds_ipc.specs.Ipcs.{other_proc}
-use Rattle.ds_map.specs.Moves.{next_unit}
-use Rattle.ds_ports.specs.Io.{IoState, io_at_boot, io_of, stall_ends, tick_after}
-use Rattle.ds_ports.proofs.Events.{Happens, event_goes, keys_happen}
-use Rattle.ds_ports.proofs.Later.{of_both}
-use Rattle.ds_runs.proofs.RunLaws.{same_makes}
-use Rattle.ds_runs.specs.Actors.{actor_of}
-use Rattle.ds_runs.specs.Runs.{At, Ending, IsLeast, Makes, Runs, over, stops, more}
 use Rattle.ds_runs.specs.Runs as runs
 use Rattle.ds_runs.specs.declared.actors.Actor as actor
-use Rattle.ds_runs.specs.declared.actors.Actor.TheVariants.{KeyScript, Video, Geometry, Dma, Processor}
-use Rattle.ds_machine.specs.Channels.{channel_step}
-use Rattle.ds_machine.specs.Halting.{BootsKeepNoMore, KeepsNoMore, RunsKeepNoMore}
-use Rattle.ds_machine.specs.Reference.{Shown, after_event, after_geometry, after_line, after_video, display_done, dues_of, reference, reference_step, step_by}
-use Rattle.ds_machine.specs.Sound.{HasSoundParts}
-use Rattle.ds_machine.specs.States.{MachineState, ProcessorState}
-use Rattle.ds_machine.specs.Steps.{ended, gone_by, goes_on, is_halted, machine_settled, processor_of, wakes, woken, woken_one}
+use Rattle.ds_machine.specs.HaltingLaws.{BootsKeepNoMore, KeepsNoMore, RunsKeepNoMore}
 use Rattle.ds_machine.proofs.Booting.{settled_booted}
 use Rattle.ds_machine.proofs.ChannelEvents.{channel_made, machine_after_unit, unit_other}
 use Rattle.ds_machine.proofs.MachineSchedule.{Steps, channel_timers, display_happens, operation, owes_as, sound_as, step_made_as, steps_here}
@@ -32,7 +17,6 @@ use Rattle.ds_machine.proofs.OuterSteps.{settled_halted}
 use Rattle.ds_machine.proofs.ProcessorSteps.{Took, came_by, concludes, costs_some, goes, reached_by, reaches, step_is}
 use Rattle.ds_machine.proofs.VideoEvents.{video_makes}
 use Rattle.ds_machine.proofs.Wakes.{settled_due}
-use Rattle.video2d.specs.Scans.{scan_due_tick}
 
 -- While a processor is halted it has no tick: at each step it is halted or not as before and due as before, or it has none.
 

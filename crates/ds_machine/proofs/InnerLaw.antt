@@ -1,33 +1,19 @@
-use Rattle.std.proofs.Common.{ℕ, ◌≡◌, ◌≢◌, ◌<◌, ◌+◌, arith, ◌&&◌, Bool, true, false, List, [], Some, refl, sym, ◌∙◌, ap, subst}
-use Rattle.ds_base.specs.Schedules.{IsLater}
-use Rattle.ds_base.specs.declared.left_out.LeftOut.{LeftOut}
-use Rattle.ds_base.specs.declared.processors.Proc.{Proc}
-use Rattle.ds_base.specs.declared.processors.Proc.TheVariants.{Nine, Seven}
-use Rattle.ds_base.specs.declared.ticks.Tick.{Tick}
-use Rattle.arm_core.specs.Effects.{Outcome}
-use Rattle.arm_core.specs.Registers.{RegisterState}
-use Rattle.arm_core.specs.Steps.{enters}
+use Rattle.ds_machine.proofs.Words.{ℕ, ◌≡◌, ◌≢◌, ◌<◌, ◌+◌, arith, Bool, true, false, List, [], Some, refl, sym, ◌∙◌, ap, subst, IsLater, LeftOut}
+use Rattle.ds_machine.proofs.Words.{Proc, Nine, Seven, Tick, Outcome, RegisterState, enters, Cost, Halted, Left, NineReach, SevenReach, nine_memory}
+use Rattle.ds_machine.proofs.Words.{seven_memory, IsSharedSo, is_beyond_seven, is_shown_to_nine, IsIo, IoState, is_settled, ProcessorIoState}
+use Rattle.ds_machine.proofs.Words.{MachineStep, Makes, Processor, shares_bit, mixed, mixed_length, mixed_same, mixed_twice, NineOwn, nine_own_of}
+use Rattle.ds_machine.proofs.Words.{with_nine_own, with_seven_part, IsHarmless, IsPrivate, ProcessorStaysPrivate, StaysPrivate, Shown, awake, due_by}
+use Rattle.ds_machine.proofs.Words.{due_unless, processor_due, reference_step, AreAsleep, IsSound, nine_side, seven_side, side_taken, side_waits}
+use Rattle.ds_machine.proofs.Words.{MachineState, ProcessorState, SevenState, is_blocked, line_of, machine_concluded, nine_reach, processor_of}
+use Rattle.ds_machine.proofs.Words.{seven_reach, tick_of, went_on, with_nine, with_processor, with_seven}
+use Rattle.std.proofs.Common.{◌&&◌}
 use Rattle.arm_core.specs.declared.outcomes.Stepped as arm
-use Rattle.arm_core.specs.declared.outcomes.Stepped.TheVariants.{Cost, Halted, Left}
-use Rattle.ds_map.specs.Views.{NineReach, SevenReach, nine_memory, seven_memory}
-use Rattle.ds_map.specs.Shares.{IsSharedSo, is_beyond_seven, is_shown_to_nine, shared_put}
-use Rattle.ds_ports.specs.Happenings.{IsIo}
-use Rattle.ds_ports.specs.Io.{IoState, is_settled, with_shares}
-use Rattle.ds_ports.specs.ProcessorIo.{ProcessorIoState}
-use Rattle.ds_runs.specs.Runs.{MachineStep, Makes}
+use Rattle.ds_map.specs.ShareLaws.{shared_put}
+use Rattle.ds_ports.specs.Io.{with_shares}
 use Rattle.ds_runs.specs.declared.actors.Actor as actor
-use Rattle.ds_runs.specs.declared.actors.Actor.TheVariants.{Processor}
-use Rattle.ds_timers.specs.Irqs.{shares_bit}
 use Rattle.vram_banks.specs.Cells as cells
-use Rattle.vram_banks.specs.Mixes.{mixed}
-use Rattle.vram_banks.proofs.Mixes.{mixed_length, mixed_same, mixed_twice}
-use Rattle.ds_machine.specs.Apart.{NineOwn, nine_own_of, with_nine_own, with_nine_part, with_seven_part}
-use Rattle.ds_machine.specs.Private.{IsHarmless, IsPrivate, ProcessorStaysPrivate, StaysPrivate, is_deaf}
-use Rattle.ds_machine.specs.Reference.{Shown, awake, due_by, due_unless, processor_due, reference_step}
-use Rattle.ds_machine.specs.Sound.{AreAsleep, IsSound}
-use Rattle.ds_machine.specs.PrivateSides.{nine_side, seven_side, side_taken, side_waits}
-use Rattle.ds_machine.specs.States.{MachineState, ProcessorState, SevenState}
-use Rattle.ds_machine.specs.Steps.{is_blocked, line_of, machine_concluded, nine_reach, processor_of, seven_reach, tick_of, went_on, with_nine, with_processor, with_seven}
+use Rattle.ds_machine.specs.Apart.{with_nine_part}
+use Rattle.ds_machine.specs.Private.{is_deaf}
 use Rattle.ds_machine.proofs.DueTicks.{steps_as}
 use Rattle.ds_machine.proofs.FastSteps.{cost_ends}
 use Rattle.ds_machine.proofs.Moves.{later_unless}

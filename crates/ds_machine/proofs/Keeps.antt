@@ -1,20 +1,9 @@
-use Rattle.std.proofs.Common.{ℕ, ◌≡◌, Bool, true, false, if◌then◌else◌, List, [], ◌∷◌, Option, Some, None}
+use Rattle.ds_machine.proofs.Words.{ℕ, ◌≡◌, Bool, true, false, if◌then◌else◌, List, [], ◌∷◌, Option, Some, None, Access, Fetch, MemoryMachine}
+use Rattle.ds_machine.proofs.Words.{Performed, Read, Write, perform, refused_or, Stop, Width, Arch, condition_of, Instr, holds, Meaning, Outcome}
+use Rattle.ds_machine.proofs.Words.{carried_out, concluded, interrupt_meaning, undefined_meaning, meaning, skipped, RegisterState, Setting, enters}
+use Rattle.ds_machine.proofs.Words.{executed_word, fetched, stop_of, data_accesses, taken, SideOf, side_taken}
 use Rattle.ds_base.proofs.Choices.{either_by}
-use Rattle.ds_base.specs.Accesses.{Access, Fetch, MemoryMachine, Performed, Read, Write, perform, refused_or}
-use Rattle.ds_base.specs.declared.left_out.Stop.{Stop}
-use Rattle.ds_base.specs.declared.memories.Width.{Width}
-use Rattle.ds_base.specs.declared.processors.Arch.{Arch}
-use Rattle.arm_words.specs.Parts.{condition_of}
-use Rattle.arm_words.specs.declared.instructions.Instr.{Instr}
-use Rattle.arm_core.specs.Conditions.{holds}
-use Rattle.arm_core.specs.Effects.{Meaning, Outcome, carried_out, concluded}
-use Rattle.arm_core.specs.Exceptions.{interrupt_meaning, undefined_meaning}
-use Rattle.arm_core.specs.Meanings.{meaning, skipped}
-use Rattle.arm_core.specs.Registers.{RegisterState}
 use Rattle.arm_core.specs.Steps as steps
-use Rattle.arm_core.specs.Steps.{Setting, enters, executed_word, fetched, stop_of}
-use Rattle.ds_machine.specs.Sides.{data_accesses, taken}
-use Rattle.ds_machine.specs.PrivateSides.{SideOf, side_taken}
 
 -- What each access of a memory machine makes of its state, a step over it makes of it.
 
@@ -72,10 +61,10 @@ module _ {S : Type 0} (m : MemoryMachine S) (All : S → List Access → Type 0)
   word_leads setting old s number (Some instr) none i = unless_follows setting old s instr (stop_of setting old instr) none i
 
   pub taken_leads : (side : SideOf S) (line : Bool) (old : RegisterState) (s : S) → All s []
-      → (enters line old ≡ false → (let fetch = fetched m side.arch old s in R s (side.executed old s fetch.number fetch.instr).state)) → R s (side_taken m side line old s).state
+      → (enters line old ≡ false → (let fetch = fetched m side.step.arch old s in R s (side.step.executed old s fetch.number fetch.instr).state)) → R s (side_taken m side line old s).state
   unfolding taken
   taken_leads side line old s none executes =
-      either_by (λ (o : Outcome S). R s o.state) (enters line old) _ _ (λ e. carried_follows side.arch old s (interrupt_meaning (side.base s) old) none) executes
+      either_by (λ (o : Outcome S). R s o.state) (enters line old) _ _ (λ e. carried_follows side.step.arch old s (interrupt_meaning (side.step.base s) old) none) executes
 
 -- in the states I each access leads on by the relation R, and to such a state
 pub record Follows {S : Type 0} (m : MemoryMachine S) (I : S → Type 0) (R : S → S → Type 0) : Type 0 where
@@ -102,6 +91,6 @@ module _ {S : Type 0} (m : MemoryMachine S) (I : S → Type 0) (R : S → S → 
   pub word_follows : (setting : Setting) (old : RegisterState) (s : S) (number : ℕ) (instr : Option Instr) → I s → R s (executed_word m setting old s number instr).state
   word_follows setting old s number instr i = word_leads m Any R each setting old s number instr i i
 
-  pub taken_follows : (side : SideOf S) → ((old : RegisterState) (s : S) (number : ℕ) (instr : Option Instr) → I s → R s (side.executed old s number instr).state)
+  pub taken_follows : (side : SideOf S) → ((old : RegisterState) (s : S) (number : ℕ) (instr : Option Instr) → I s → R s (side.step.executed old s number instr).state)
       → (line : Bool) (old : RegisterState) (s : S) → I s → R s (side_taken m side line old s).state
-  taken_follows side executes line old s i = taken_leads m Any R each side line old s i (λ e. (let fetch = fetched m side.arch old s in executes old s fetch.number fetch.instr i))
+  taken_follows side executes line old s i = taken_leads m Any R each side line old s i (λ e. (let fetch = fetched m side.step.arch old s in executes old s fetch.number fetch.instr i))

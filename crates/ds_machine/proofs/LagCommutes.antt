@@ -1,68 +1,35 @@
-use Rattle.std.specs.Prelude.{◌||◌, not}
-use Rattle.std.proofs.Common.{ℕ, ◌≡◌, ◌≢◌, ◌+◌, ◌==◌, ◌&&◌, Bool, true, false, true≢false, if◌then◌else◌, List, [], ◌∷◌, length, Option, Some, None, refl, sym, ◌∙◌, ap, subst}
-use Rattle.std.proofs.lemmas.Bool.{or_from, or_parts}
-use Rattle.ds_base.proofs.Choices.{and_false, either}
-use Rattle.ds_base.specs.Accesses.{Access, Fetch, Read, Write}
-use Rattle.ds_base.specs.declared.keys.KeyLine.{KeyLine}
-use Rattle.ds_base.specs.declared.left_out.LeftOut.{LeftOut}
-use Rattle.ds_base.specs.declared.left_out.Stop.{Stop}
-use Rattle.ds_base.specs.declared.memories.Width.{Width}
-use Rattle.ds_base.specs.declared.processors.Arch.TheVariants.{V5}
-use Rattle.ds_base.specs.declared.processors.Proc.{Proc}
-use Rattle.ds_base.specs.declared.processors.Proc.TheVariants.{Nine, Seven}
-use Rattle.ds_base.specs.declared.ticks.Tick.{Tick}
-use Rattle.arm_words.specs.declared.instructions.Instr.{Instr}
-use Rattle.arm_core.specs.Effects.{Outcome}
-use Rattle.arm_core.specs.Registers.{RegisterState}
-use Rattle.arm_core.specs.Steps.{FetchOutcome, enters, fetched}
+use Rattle.ds_machine.proofs.Words.{◌||◌, not, ℕ, ◌≡◌, ◌≢◌, ◌+◌, ◌==◌, Bool, true, false, true≢false, if◌then◌else◌, List, [], ◌∷◌, length, Option}
+use Rattle.ds_machine.proofs.Words.{Some, None, refl, sym, ◌∙◌, ap, subst, or_from, or_parts, and_false, either, Access, Fetch, Read, Write, KeyLine}
+use Rattle.ds_machine.proofs.Words.{LeftOut, Stop, Width, V5, Proc, Nine, Seven, Tick, Instr, Outcome, RegisterState, FetchOutcome, enters, fetched}
+use Rattle.ds_machine.proofs.Words.{Cost, Halted, Left, arm9, move_of, Moved, Cp15State, vectors_of, tcm_of, Tcm, Dtcm, Itcm, Past, ChannelState}
+use Rattle.ds_machine.proofs.Words.{is_running, is_enabled, DmaState, awaits_geometry, channel_at, dma_due, card_after_event, card_due, card_starter}
+use Rattle.ds_machine.proofs.Words.{awaits_none, MapState, next_unit, unit_moved, unit_refusal, NineReach, nine_memory, tcm_fetched, tcm_read}
+use Rattle.ds_machine.proofs.Words.{tcm_refusal, tcm_value, tcm_written, place_of, Place, Banks, Cell, Nothing, Port, Rom, io_due, IoState}
+use Rattle.ds_machine.proofs.Words.{both_raised, card_done_at, channels_triggered, io_event, keys_pressed, level_told, release_by, release_kept}
+use Rattle.ds_machine.proofs.Words.{settled, shown_to_others, starter_told, video_done, with_gx, processor_io_triggered, MachineStep, Makes}
+use Rattle.ds_machine.proofs.Words.{KeyScript, Video, Timer, Geometry, Card, Dma, Processor, same_makes, irq_levelled, GxState, gx_level}
+use Rattle.ds_machine.proofs.Words.{is_half_empty, is_stalled, scan_due, scan_due_tick, starts_vblank, answer_unless, unless_stop, video_after_event}
+use Rattle.ds_machine.proofs.Words.{video_shown, video_stop, machine_graft, step_with, unchanged_by, channel_step, delayed_past, moved_by, one_event}
+use Rattle.ds_machine.proofs.Words.{access_observes, any_observes, is_observed_past, is_observed_place, nine_observes, observes_by, any_armed}
+use Rattle.ds_machine.proofs.Words.{data_accesses, nine_executed, Shown, after_event, after_line, after_video, shown_at, step_by, swapped_if}
+use Rattle.ds_machine.proofs.Words.{video_step, nine_wait, nine_side, side_taken, side_waits, MachineState, left_by, ended, goes_on, line_of}
+use Rattle.ds_machine.proofs.Words.{machine_concluded, machine_settled, map_of, nine_reach, tick_of, wakes, with_io, with_map, with_nine, woken}
+use Rattle.ds_machine.proofs.Words.{woken_one}
+use Rattle.std.proofs.Common.{◌&&◌}
 use Rattle.arm_core.specs.declared.outcomes.Stepped as arm
-use Rattle.arm_core.specs.declared.outcomes.Stepped.TheVariants.{Cost, Halted, Left}
-use Rattle.arm9_exec.specs.Arm9.{arm9}
-use Rattle.arm9_exec.specs.Coprocessors.{move_of}
-use Rattle.arm9_exec.specs.declared.coprocessors.Moved.{Moved}
-use Rattle.cp15_tcm.specs.Registers.{Cp15State, vectors_of}
-use Rattle.cp15_tcm.specs.TightlyCoupled.{tcm_of}
-use Rattle.cp15_tcm.specs.declared.answers.Tcm.{Tcm}
-use Rattle.cp15_tcm.specs.declared.answers.Tcm.TheVariants.{Dtcm, Itcm, Past}
-use Rattle.ds_dma.specs.Channels.{ChannelState, is_running, is_triggered}
-use Rattle.ds_dma.specs.Controls.{is_enabled, waits_for}
-use Rattle.ds_dma.specs.States.{DmaState, awaits_geometry, channel_at, dma_due}
+use Rattle.ds_dma.specs.Channels.{is_triggered}
+use Rattle.ds_dma.specs.Controls.{waits_for}
 use Rattle.ds_dma.specs.declared.channels.Unit.{Unit as DmaUnit}
-use Rattle.ds_card.specs.Cards.{card_after_event, card_due, card_starter, event_readies}
+use Rattle.ds_card.specs.Cards.{event_readies}
 use Rattle.ds_dma.specs.declared.controls.Cause.TheVariants as causes
-use Rattle.ds_dma.proofs.Wholes.{awaits_none}
-use Rattle.ds_map.specs.Maps.{MapState}
-use Rattle.ds_map.specs.Moves.{next_unit, unit_moved, unit_refusal}
-use Rattle.ds_map.specs.Views.{NineReach, nine_memory, tcm_fetched, tcm_read, tcm_refusal, tcm_value, tcm_written}
 use Rattle.ds_map.proofs.GxApart as gx_map
 use Rattle.ds_map.proofs.GxApart.{IsApartPlace, gx_in_map}
-use Rattle.ds_places.specs.AddressTables.{place_of}
-use Rattle.ds_places.specs.declared.kinds.Place.{Place}
-use Rattle.ds_places.specs.declared.kinds.Place.TheVariants.{Banks, Cell, Nothing, Port, Rom}
-use Rattle.ds_ports.specs.Dues.{io_due}
-use Rattle.ds_ports.specs.Io.{IoState, both_raised, card_done_at, channels_triggered, io_event, keys_pressed, level_told, release_by, release_kept, settled, shown_to_others, starter_told, video_done, with_gx}
-use Rattle.ds_ports.specs.ProcessorIo.{processor_io_triggered}
 use Rattle.ds_ports.proofs.Arms.{ArmsNoMore, KeepsControls, armed, arms_by, arms_kept, arms_same, arms_then, keeps_same, triggered_keeps}
 use Rattle.ds_ports.proofs.GxApart.{channel_due_apart, event_apart, video_apart}
-use Rattle.ds_runs.specs.Runs.{MachineStep, Makes}
 use Rattle.ds_runs.specs.declared.actors.Actor as actor
-use Rattle.ds_runs.specs.declared.actors.Actor.TheVariants.{KeyScript, Video, Timer, Geometry, Card, Dma, Processor}
-use Rattle.ds_runs.proofs.RunLaws.{same_makes}
-use Rattle.ds_timers.specs.Irqs.{irq_levelled}
-use Rattle.gx_fifo.specs.GxStates.{GxState, gx_level, is_half_empty, is_stalled, shown_count}
-use Rattle.video2d.specs.Scans.{scan_due, scan_due_tick, starts_vblank}
-use Rattle.video2d.specs.Videos.{answer_unless, unless_stop, video_after_event, video_shown, video_stop}
-use Rattle.ds_machine.specs.Touched.{machine_graft, step_with, unchanged_by}
-use Rattle.ds_machine.specs.Channels.{channel_step, delayed_past, moved_by, one_event}
-use Rattle.ds_machine.specs.Lagging.{access_observes, any_observes, channel_observes, is_observed_past, is_observed_place, nine_observes, observes_by}
-use Rattle.ds_ports.specs.Acting.{any_armed, is_armed}
-use Rattle.ds_machine.specs.Sides.{data_accesses, nine_executed}
-use Rattle.ds_machine.specs.Reference.{Shown, after_event, after_line, after_video, shown_at, step_by, swapped_if, video_step}
-use Rattle.ds_map.specs.Waits.{nine_wait}
-use Rattle.ds_machine.specs.PrivateSides.{nine_side, side_taken, side_waits}
-use Rattle.ds_machine.specs.States.{MachineState}
-use Rattle.ds_machine.specs.Statuses.{left_by}
-use Rattle.ds_machine.specs.Steps.{ended, goes_on, line_of, machine_concluded, machine_settled, map_of, nine_reach, tick_of, wakes, with_io, with_map, with_nine, woken, woken_one}
+use Rattle.gx_fifo.specs.GxStates.{shown_count}
+use Rattle.ds_machine.specs.Lagging.{channel_observes}
+use Rattle.ds_ports.specs.Acting.{is_armed}
 use Rattle.ds_machine.proofs.Commutes.{Commutes, outcome_so, step_waits_commute, taken_commutes, word_commutes}
 use Rattle.ds_machine.proofs.Ticks.{ticked, ticked_so}
 use Rattle.ds_machine.proofs.Keeps.{FollowsEach, taken_leads, word_leads}

@@ -1,26 +1,12 @@
-use Rattle.std.proofs.Common.{ℕ, ◌≡◌, ◌≢◌, ◌<◌, ◌≤◌, ◌⊎◌, inl, inr, true, false, List, [], Option, Some, None, refl, sym, ◌∙◌, ap, subst, arith}
-use Rattle.std.specs.Prelude.{is_some}
-use Rattle.ds_base.proofs.Choices.{true_or_false}
-use Rattle.ds_base.specs.Schedules.{IsLater, Reschedules}
-use Rattle.ds_base.specs.declared.left_out.LeftOut.{LeftOut}
-use Rattle.ds_base.specs.declared.ticks.Tick.{Tick}
-use Rattle.ds_runs.specs.Actors.{IsNumbered, actor_of, actors}
-use Rattle.ds_runs.specs.Lags.{MayLag, MayStepFirst, StepsBefore}
-use Rattle.ds_runs.specs.Runs.{IsLeast, MachineStep, Makes, Stops, due_at}
+use Rattle.ds_machine.proofs.Words.{ℕ, ◌≡◌, ◌≢◌, ◌<◌, ◌≤◌, ◌⊎◌, inl, inr, true, false, List, [], Option, Some, None, refl, sym, ◌∙◌, ap, subst, arith}
+use Rattle.ds_machine.proofs.Words.{is_some, true_or_false, IsLater, Reschedules, LeftOut, Tick, IsNumbered, actor_of, actors, StepsBefore, IsLeast}
+use Rattle.ds_machine.proofs.Words.{MachineStep, Makes, Stops, due_at, Geometry, at_rank, is_later, least_unique, same_makes, AreWaiting, GxState}
+use Rattle.ds_machine.proofs.Words.{gx_finished, is_stalled, step_with, StepsBeforeGeometry, any_armed, is_quiet, acting_due, acting_dues, Shown}
+use Rattle.ds_machine.proofs.Words.{awake, due_by, dues_of, reference, reference_step, step_by, HasSoundParts, IsSound, MachineState, ended}
+use Rattle.ds_runs.specs.Lags.{MayLag, MayStepFirst}
 use Rattle.ds_runs.specs.declared.actors.Actor as actor
-use Rattle.ds_runs.specs.declared.actors.Actor.TheVariants.{Geometry}
 use Rattle.ds_runs.proofs.Lags as lags
-use Rattle.ds_runs.proofs.Lists.{at_rank, is_later, least_unique}
-use Rattle.ds_runs.proofs.RunLaws.{same_makes}
-use Rattle.gx_fifo.specs.GxStates.{AreWaiting, GxState, gx_finished, is_stalled}
-use Rattle.ds_machine.specs.Touched.{step_with}
-use Rattle.ds_machine.specs.Lagging.{LagRuns, LagStops, StepsBeforeGeometry}
-use Rattle.ds_ports.specs.Acting.{any_armed, is_quiet}
-use Rattle.ds_machine.specs.Acting.{acting_due, acting_dues}
-use Rattle.ds_machine.specs.Reference.{Shown, awake, due_by, dues_of, reference, reference_step, step_by}
-use Rattle.ds_machine.specs.Sound.{HasSoundParts, IsSound}
-use Rattle.ds_machine.specs.States.{MachineState}
-use Rattle.ds_machine.specs.Steps.{ended}
+use Rattle.ds_machine.specs.Lagging.{LagRuns, LagStops}
 use Rattle.ds_machine.proofs.ActingDues.{acting_low, acting_of_rank, acts_where_due, loud_same, maps_same}
 use Rattle.ds_machine.proofs.DueTicks.{due_of_least, due_of_rank, steps_as}
 use Rattle.ds_machine.proofs.GeometryFirst.{least_acting, least_geometry, not_later, one_first}

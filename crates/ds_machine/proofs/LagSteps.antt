@@ -1,54 +1,18 @@
-use Rattle.std.proofs.Common.{ℕ, ◌≡◌, ◌≢◌, ◌%◌, ◌^◌, ◌==◌, Bool, true, false, true≢false, if◌then◌else◌, List, [], ◌∷◌, Option, Some, None, refl, sym, ◌∙◌, ap}
-use Rattle.std.specs.Prelude.{◌&&◌, ◌||◌, not, max, is_some}
-use Rattle.std.proofs.lemmas.Bool.{and_parts, not-true}
-use Rattle.ds_base.proofs.Choices.{equal, is_equal}
-use Rattle.ds_base.specs.Accesses.{Access, Fetch, Read, Write}
-use Rattle.ds_base.specs.Schedules.{IsLater}
-use Rattle.ds_base.specs.declared.left_out.LeftOut.{LeftOut}
-use Rattle.ds_base.specs.declared.memories.Width.{Width}
-use Rattle.ds_base.specs.declared.memories.Width.TheVariants.{Half, Word}
-use Rattle.ds_base.specs.declared.processors.Arch.{Arch}
-use Rattle.ds_base.specs.declared.processors.Proc.{Proc}
-use Rattle.ds_base.specs.declared.processors.Proc.TheVariants.{Nine, Seven}
-use Rattle.ds_base.specs.declared.ticks.Tick.{Tick}
-use Rattle.arm_core.specs.Registers.{RegisterState, is_thumb}
-use Rattle.arm_core.specs.Steps.{enters, fetched, fetched_half, fetched_word}
-use Rattle.arm_words.specs.ArmTable.{decoded_arm}
-use Rattle.arm_words.specs.ThumbTable.{decoded_thumb}
-use Rattle.arm_words.specs.declared.instructions.Instr.{Instr}
-use Rattle.cp15_tcm.specs.TightlyCoupled.{tcm_of}
-use Rattle.cp15_tcm.specs.declared.answers.Tcm.{Tcm}
-use Rattle.cp15_tcm.specs.declared.answers.Tcm.TheVariants.{Itcm, Dtcm, Past}
-use Rattle.ds_dma.specs.States.{awaits_geometry, channel_due, dma_due}
-use Rattle.ds_map.specs.Accesses.{fetched_at, map_fetched}
-use Rattle.ds_map.specs.Maps.{MapState}
-use Rattle.ds_map.specs.Views.{NineReach, nine_memory, tcm_fetched}
-use Rattle.ds_places.specs.AddressTables.{place_of}
-use Rattle.ds_places.specs.declared.kinds.Place.{Place}
-use Rattle.ds_places.specs.declared.kinds.Place.TheVariants.{Cell, Banks, Port, Rom, Nothing}
-use Rattle.ds_ports.specs.Dues.{held_due}
-use Rattle.ds_ports.specs.Io.{IoState, is_settled, release_by, release_of, tick_after, stall_ends, with_gx}
-use Rattle.ds_ports.specs.ProcessorIo.{blocks_processor}
+use Rattle.ds_machine.proofs.Words.{ℕ, ◌≡◌, ◌≢◌, ◌%◌, ◌^◌, ◌==◌, Bool, true, false, true≢false, if◌then◌else◌, List, [], ◌∷◌, Option, Some, None}
+use Rattle.ds_machine.proofs.Words.{refl, sym, ◌∙◌, ap, ◌&&◌, ◌||◌, not, is_some, and_parts, not-true, equal, is_equal, Access, Fetch, Read, Write}
+use Rattle.ds_machine.proofs.Words.{IsLater, LeftOut, Width, Half, Word, Arch, Proc, Nine, Seven, Tick, RegisterState, is_thumb, enters, fetched}
+use Rattle.ds_machine.proofs.Words.{fetched_half, fetched_word, decoded_arm, decoded_thumb, Instr, tcm_of, Tcm, Itcm, Dtcm, Past, awaits_geometry}
+use Rattle.ds_machine.proofs.Words.{channel_due, dma_due, fetched_at, map_fetched, MapState, NineReach, nine_memory, tcm_fetched, place_of, Place}
+use Rattle.ds_machine.proofs.Words.{Cell, Banks, Port, Rom, Nothing, held_due, IoState, is_settled, release_by, release_of, tick_after, stall_ends}
+use Rattle.ds_machine.proofs.Words.{with_gx, blocks_processor, MachineStep, Makes, Video, Timer, Geometry, Dma, Processor, actors, irq_levelled}
+use Rattle.ds_machine.proofs.Words.{complete_command, GxState, done_by, gx_finished, gx_level, is_half_empty, is_stalled, GeometryCommand, one_event}
+use Rattle.ds_machine.proofs.Words.{access_observes, any_observes, nine_observes, observes_by, any_armed, is_quiet, acting_due, acting_dues}
+use Rattle.ds_machine.proofs.Words.{data_accesses, Shown, after_geometry, due_by, due_unless, reference_step, IsSound, nine_side, MachineState, ended}
+use Rattle.ds_machine.proofs.Words.{line_of, nine_reach, tick_of, wakes, with_io, with_processor}
+use Rattle.std.specs.Prelude.{max}
 use Rattle.ds_ports.proofs.Settles.{no_stall_begins}
-use Rattle.ds_runs.specs.Runs.{MachineStep, Makes}
 use Rattle.ds_runs.specs.declared.actors.Actor as actor
-use Rattle.ds_runs.specs.declared.actors.Actor.TheVariants.{Video, Timer, Geometry, Dma, Processor}
-use Rattle.ds_runs.specs.Actors.{actors}
-use Rattle.ds_timers.specs.Irqs.{irq_levelled}
-use Rattle.gx_fifo.specs.Entries.{complete_command}
-use Rattle.gx_fifo.specs.GxStates.{GxState, done_by, gx_finished, gx_level, is_half_empty, is_stalled}
 use Rattle.gx_fifo.proofs.Laws.{finished_later, finished_waiting}
-use Rattle.gx_matrix.specs.declared.commands.GeometryCommand.{GeometryCommand}
-use Rattle.ds_machine.specs.Channels.{one_event}
-use Rattle.ds_machine.specs.Lagging.{access_observes, any_observes, nine_observes, observes_by}
-use Rattle.ds_ports.specs.Acting.{any_armed, is_quiet}
-use Rattle.ds_machine.specs.Acting.{acting_due, acting_dues}
-use Rattle.ds_machine.specs.Sides.{data_accesses}
-use Rattle.ds_machine.specs.Reference.{Shown, after_geometry, due_by, due_unless, reference_step}
-use Rattle.ds_machine.specs.Sound.{IsSound}
-use Rattle.ds_machine.specs.PrivateSides.{nine_side}
-use Rattle.ds_machine.specs.States.{MachineState}
-use Rattle.ds_machine.specs.Steps.{ended, line_of, nine_reach, tick_of, wakes, with_io, with_processor}
 use Rattle.ds_machine.proofs.ActingDues.{maps_same}
 use Rattle.ds_machine.proofs.DueTicks.{steps_as}
 use Rattle.ds_machine.proofs.FastSteps.{end_stays}
@@ -272,10 +236,10 @@ nine_so : (g : GxState) (s : MachineState) → nine_observes (late_put g s) ≡ 
 nine_so g s =
     let registers = s.nine.processor.registers in
     let r = nine_reach (tick_of s.nine.processor) s in
-    let list : Option Instr → List Access = λ instr. data_accesses nine_side.arch (nine_side.base r) registers instr in
+    let list : Option Instr → List Access = λ instr. data_accesses nine_side.step.arch (nine_side.step.base r) registers instr in
     let free = not (enters (line_of s Nine) registers) in
-    ap (λ (instr : Option Instr). free && any_observes (reach_put g r) (list instr)) (fetch_so (is_thumb registers) nine_side.arch g registers r)
-    ∙ ap (λ (b : Bool). free && b) (accesses_so g r (list (fetched nine_memory nine_side.arch registers r).instr))
+    ap (λ (instr : Option Instr). free && any_observes (reach_put g r) (list instr)) (fetch_so (is_thumb registers) nine_side.step.arch g registers r)
+    ∙ ap (λ (b : Bool). free && b) (accesses_so g r (list (fetched nine_memory nine_side.step.arch registers r).instr))
 
 pub observes_same : (a : actor.Actor) (g : GxState) (s : MachineState) → observes_by a (late_put g s) ≡ observes_by a s
 observes_same Video g s = refl

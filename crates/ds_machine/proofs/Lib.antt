@@ -1,3 +1,4 @@
+mod Words
 pub mod Apart
 pub mod Touched
 pub mod FastSteps

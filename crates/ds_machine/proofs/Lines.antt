@@ -1,6 +1,4 @@
-use Rattle.std.proofs.Common.{ℕ, ◌<◌, ◌^◌, List, length}
-use Rattle.ds_base.specs.KeyLines.{AreKeyLines, line_at}
-use Rattle.ds_base.specs.declared.keys.KeyLine.{KeyLine}
+use Rattle.ds_machine.proofs.Words.{ℕ, ◌<◌, ◌^◌, List, length, AreKeyLines, line_at, KeyLine}
 
 -- A line of a key script tells of twelve keys.
 

@@ -1,34 +1,18 @@
-use Rattle.std.specs.Prelude.{max, not, ◌&&◌, ◌||◌}
-use Rattle.std.proofs.Math.Nat.{le-max_right}
-use Rattle.std.proofs.Common.{ℕ, suc, ◌≡◌, ◌<◌, ◌+◌, inl, inr, Bool, true, false, true≢false, if◌then◌else◌, List, [], ◌∷◌, length, Option, Some, None, refl, sym, ◌∙◌, ap, subst, arith}
-use Rattle.std.proofs.lemmas.Option.{same_Some, none-some}
-use Rattle.ds_base.specs.KeyLines.{AreKeyLines, line_at}
-use Rattle.ds_base.specs.Schedules.{IsLater, Reschedules}
-use Rattle.ds_base.specs.declared.keys.KeyLine.{KeyLine}
-use Rattle.ds_base.specs.declared.left_out.LeftOut.{LeftOut}
-use Rattle.ds_base.specs.declared.processors.Proc.{Proc}
-use Rattle.ds_base.specs.declared.processors.Proc.TheVariants.{Nine, Seven}
-use Rattle.ds_base.specs.declared.ticks.Tick.{Tick}
-use Rattle.ds_map.specs.Moves.{next_unit, unit_read}
-use Rattle.ds_ports.specs.Happenings.{IsIo}
-use Rattle.ds_ports.specs.ProcessorIo.{blocks_processor}
-use Rattle.ds_ports.specs.Io.{IoState, io_event, io_of, is_settled, keys_pressed, tick_after, video_done}
-use Rattle.gx_fifo.specs.GxStates.{gx_finished, is_stalled}
-use Rattle.ds_ports.proofs.Events.{Happens, event_goes, happens_on, keys_happen, show_goes}
-use Rattle.ds_ports.proofs.Settles.{geometry_goes, happens_held, swapped_happens}
-use Rattle.ds_ports.proofs.Later.{still_later}
-use Rattle.ds_runs.specs.Actors.{IsNumbered, actor_of}
-use Rattle.ds_runs.specs.Runs.{IsLeast, MachineStep, Makes, Stops, due_at}
+use Rattle.ds_machine.proofs.Words.{not, ◌&&◌, ◌||◌, le-max_right, ℕ, suc, ◌≡◌, ◌<◌, ◌+◌, inl, inr, Bool, true, false, true≢false, if◌then◌else◌}
+use Rattle.ds_machine.proofs.Words.{List, [], ◌∷◌, length, Option, Some, None, refl, sym, ◌∙◌, ap, subst, arith, same_Some, none-some, AreKeyLines}
+use Rattle.ds_machine.proofs.Words.{line_at, IsLater, Reschedules, KeyLine, LeftOut, Proc, Nine, Seven, Tick, next_unit, unit_read, IsIo}
+use Rattle.ds_machine.proofs.Words.{blocks_processor, IoState, io_event, io_of, is_settled, keys_pressed, tick_after, video_done, gx_finished}
+use Rattle.ds_machine.proofs.Words.{is_stalled, Happens, event_goes, keys_happen, happens_held, still_later, IsNumbered, actor_of, IsLeast}
+use Rattle.ds_machine.proofs.Words.{MachineStep, Makes, Stops, due_at, KeyScript, Video, Timer, Geometry, Dma, Processor, is_numbered, same_makes}
+use Rattle.ds_machine.proofs.Words.{not_both, channel_step, one_event, Shown, after_event, after_geometry, after_line, after_video, awake}
+use Rattle.ds_machine.proofs.Words.{display_done, due_by, due_unless, dues_of, keys_due, processor_due, reference, step_by, swapped_if}
+use Rattle.ds_machine.proofs.Words.{reference_step, AreAsleep, HasSoundParts, IsSound, MachineState, ProcessorState, ended, gone_by, is_blocked}
+use Rattle.ds_machine.proofs.Words.{map_of, processor_of, with_io, with_map, scan_due, scan_due_tick, starts_vblank, VideoState, video_stop}
+use Rattle.std.specs.Prelude.{max}
+use Rattle.ds_ports.proofs.Events.{happens_on, show_goes}
+use Rattle.ds_ports.proofs.Settles.{geometry_goes, swapped_happens}
 use Rattle.ds_runs.specs.Owed.{Schedules}
 use Rattle.ds_runs.specs.declared.actors.Actor as actor
-use Rattle.ds_runs.specs.declared.actors.Actor.TheVariants.{KeyScript, Video, Timer, Geometry, Dma, Processor}
-use Rattle.ds_runs.proofs.AllActors.{is_numbered}
-use Rattle.ds_runs.proofs.RunLaws.{same_makes, not_both}
-use Rattle.ds_machine.specs.Channels.{channel_step, one_event}
-use Rattle.ds_machine.specs.Reference.{Shown, after_event, after_geometry, after_line, after_video, awake, display_done, due_by, due_unless, dues_of, keys_due, processor_due, reference, step_by, swapped_if, reference_step}
-use Rattle.ds_machine.specs.Sound.{AreAsleep, HasSoundParts, IsSound}
-use Rattle.ds_machine.specs.States.{MachineState, ProcessorState}
-use Rattle.ds_machine.specs.Steps.{ended, gone_by, is_blocked, map_of, processor_of, with_io, with_map}
 use Rattle.ds_machine.proofs.ChannelEvents.{machine_after_unit, channel_unchanged, channel_made, read_moves, read_sound, unit_later, unit_moves, unit_sound}
 use Rattle.ds_machine.proofs.DueTicks.{due_of_least, due_of_rank, due_then, entries_are, low_rank, somebody_is}
 use Rattle.ds_machine.proofs.Moves.{Moves, blocked_moves, moves_all, moves_of, then_all}
@@ -36,8 +20,6 @@ use Rattle.ds_machine.proofs.ProcessorSteps.{Operation, came_by, concluded_stops
 use Rattle.ds_machine.proofs.Quiet.{comes_late, none_blocked, own_blocks, timers_later}
 use Rattle.ds_machine.proofs.VideoEvents.{display_video, video_makes, video_stops}
 use Rattle.ds_machine.proofs.Wakes.{ended_asleep, ended_settled, ends}
-use Rattle.video2d.specs.Scans.{scan_due, scan_due_tick, starts_vblank}
-use Rattle.video2d.specs.Videos.{VideoState, video_stop}
 
 -- What the reference machine owes of its due ticks.
 

@@ -1,24 +1,9 @@
-use Rattle.std.proofs.Common.{ℕ, ◌≡◌, Bool, true, false, true≢false, if◌then◌else◌, List, [], Option, Some, None, IsSome, refl, sym, ◌∙◌, ap}
-use Rattle.std.specs.Prelude.{◌&&◌}
-use Rattle.ds_base.specs.Accesses.{Access, MemoryMachine, Performed, perform}
-use Rattle.ds_base.specs.declared.left_out.Stop.{Stop}
-use Rattle.ds_base.specs.declared.processors.Arch.{Arch}
-use Rattle.ds_base.specs.declared.processors.Arch.TheVariants.{V4}
-use Rattle.arm_words.specs.Parts.{condition_of}
-use Rattle.arm_words.specs.declared.instructions.Instr.{Instr}
-use Rattle.arm_words.specs.declared.instructions.Instr.TheVariants.{Coprocessor, Swi, ThumbSwi}
-use Rattle.arm_core.specs.Conditions.{holds}
-use Rattle.arm_core.specs.Effects.{Meaning, carried_out, concluded}
-use Rattle.arm_core.specs.Exceptions.{interrupt_meaning, undefined_meaning}
-use Rattle.arm_core.specs.Meanings.{act, condition, meaning, skipped}
-use Rattle.arm_core.specs.Registers.{RegisterState}
-use Rattle.arm_core.specs.Steps.{Setting, enters, executed_unless, executed_word, fetched, stop_of}
-use Rattle.arm_core.specs.Thumb.{equivalent}
-use Rattle.arm7_exec.specs.Arm7.{arm7}
-use Rattle.arm9_exec.specs.Coprocessors.{move_of}
-use Rattle.ds_map.specs.Views.{SevenReach, seven_memory}
-use Rattle.ds_machine.specs.PrivateSides.{seven_side, side_taken}
-use Rattle.ds_machine.specs.Rooms.{accesses_of, step_accesses}
+use Rattle.ds_machine.proofs.Words.{ℕ, ◌≡◌, Bool, true, false, true≢false, if◌then◌else◌, List, [], Option, Some, None, refl, sym, ◌∙◌, ap, ◌&&◌}
+use Rattle.ds_machine.proofs.Words.{Access, MemoryMachine, Performed, perform, Stop, Arch, V4, condition_of, Instr, Coprocessor, Swi, ThumbSwi, holds}
+use Rattle.ds_machine.proofs.Words.{Meaning, carried_out, concluded, interrupt_meaning, undefined_meaning, act, condition, meaning, skipped}
+use Rattle.ds_machine.proofs.Words.{RegisterState, Setting, enters, executed_unless, executed_word, fetched, stop_of, equivalent, arm7, move_of}
+use Rattle.ds_machine.proofs.Words.{SevenReach, seven_memory, seven_side, side_taken, accesses_of, step_accesses}
+use Rattle.std.proofs.Common.{IsSome}
 use Rattle.ds_machine.proofs.Taken.{taken_entered, taken_executed}
 
 -- What a word or half that was fetched leaves of a memory machine is what its instruction's accesses leave: an undefined one makes none, nor does a

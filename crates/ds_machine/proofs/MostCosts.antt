@@ -1,21 +1,24 @@
-use Rattle.std.proofs.Common.{ℕ, ◌≡◌, ◌<◌, ◌≤◌, ◌/◌, ◌%◌, ◌^◌, ◌==◌, count_ones, Bool, true, false, if◌then◌else◌, List, [], ◌∷◌, Option, Some, None, refl, arith}
-use Rattle.ds_base.proofs.Choices.{either}
-use Rattle.ds_base.specs.Accesses.{Access, MemoryMachine, Performed, perform}
+use Rattle.ds_machine.proofs.Words.{ℕ, ◌≡◌, ◌<◌, ◌≤◌, ◌/◌, ◌%◌, ◌^◌, ◌==◌, Bool, true, false, if◌then◌else◌, List, [], ◌∷◌, Option, Some, None, refl}
+use Rattle.ds_machine.proofs.Words.{arith, either, Access, MemoryMachine, Performed, perform, Stop, Arch, V4, V5, Proc, Nine, Seven, Tick}
+use Rattle.ds_machine.proofs.Words.{decoded_arm, condition_of, decoded_thumb, Instr, Bx, BlxRegister, Clz, Saturating, Smla, Smlaw, Smulw, Smlal}
+use Rattle.ds_machine.proofs.Words.{Smul, Mul, Mla, LongMultiply, Swap, HalfTransfer, Mrs, Msr, MsrImmediate, Compare, Move, Data, DoubleTransfer}
+use Rattle.ds_machine.proofs.Words.{Transfer, Multiple, Branch, Coprocessor, Swi, Never, ThumbAddress, ThumbLoadLiteral, ThumbBranchIf, ThumbBranch}
+use Rattle.ds_machine.proofs.Words.{ThumbBlPrefix, ThumbBlSuffix, HalfOp, Strh, Ldrh, Ldrsb, Ldrsh, count_listed, addressed, offset_value}
+use Rattle.ds_machine.proofs.Words.{short_offset_value, holds, Meaning, Outcome, carried_out, concluded, cost_of, enhanced_meaning, link_meaning}
+use Rattle.ds_machine.proofs.Words.{interrupt_meaning, undefined_meaning, act, act_branch, act_multiply, act_processing, condition, meaning, skipped}
+use Rattle.ds_machine.proofs.Words.{RegisterState, is_thumb, register, FetchOutcome, Setting, enters, executed_unless, executed_word, fetched}
+use Rattle.ds_machine.proofs.Words.{fetched_half, fetched_word, stop_of, equivalent, half_or_signed_meaning, load_meaning, signed_byte, signed_half}
+use Rattle.ds_machine.proofs.Words.{signed_half_meaning, word_or_byte_meaning, has_coprocessor, Addressed, Cost, Halted, Left, arm7, arm9}
+use Rattle.ds_machine.proofs.Words.{carried_over, move_of, moved_if, register_moved, written_by, Moved, Cp15Register, Cp15State, write_answer, Byte}
+use Rattle.ds_machine.proofs.Words.{Half, Word, nine_most, seven_most, NineReach, nine_memory, seven_memory, SideOf, nine_side, seven_side}
+use Rattle.ds_machine.proofs.Words.{side_taken, side_waits, next_fetch, nine_executed, taken, waits_of_step, MachineState, in_ticks, line_of}
+use Rattle.ds_machine.proofs.Words.{nine_reach, outcome_of, seven_reach, listed_within}
+use Rattle.std.proofs.Common.{count_ones}
 use Rattle.ds_base.specs.Bits.{flag}
-use Rattle.ds_base.specs.declared.left_out.Stop.{Stop}
-use Rattle.ds_base.specs.declared.processors.Arch.{Arch}
-use Rattle.ds_base.specs.declared.processors.Arch.TheVariants.{V4, V5}
-use Rattle.ds_base.specs.declared.processors.Proc.{Proc}
-use Rattle.ds_base.specs.declared.processors.Proc.TheVariants.{Nine, Seven}
-use Rattle.ds_base.specs.declared.ticks.Tick.{Tick}
-use Rattle.arm_words.specs.ArmTable.{branch_rows, conditional_arm, coprocessor_rows, data_rows, decoded_arm, double_rows, half_multiply_rows, half_product_rows, half_transfer_rows, immediate_status_rows, multiple_rows, multiply_rows, status_register_rows, top4, transfer_rows, unconditional_rows}
-use Rattle.arm_words.specs.Parts.{condition_of}
+use Rattle.arm_words.specs.ArmTable.{branch_rows, conditional_arm, coprocessor_rows, data_rows, double_rows, half_multiply_rows, half_product_rows, half_transfer_rows, immediate_status_rows, multiple_rows, multiply_rows, status_register_rows, top4, transfer_rows, unconditional_rows}
 use Rattle.arm_words.specs.Rows.{InstructionRow, agrees, first, or_else}
-use Rattle.arm_words.specs.ThumbTable.{decoded_thumb, thumb_branch_rows, thumb_literal_rows, thumb_multiple_rows, thumb_offset_rows, thumb_register_rows, thumb_stack_rows, thumb_sum_rows}
-use Rattle.arm_words.specs.declared.instructions.Instr.{Instr}
-use Rattle.arm_words.specs.declared.instructions.Instr.TheVariants.{Bx, BlxRegister, Clz, Saturating, Smla, Smlaw, Smulw, Smlal, Smul, Mul, Mla, LongMultiply, Swap, HalfTransfer, Mrs, Msr, MsrImmediate, Compare, Move, Data, DoubleTransfer, Transfer, Multiple, Branch, Coprocessor, Swi, Never, ThumbImmediate, ThumbData, ThumbHigh, ThumbRegisterOffset, ThumbPushPop, ThumbMultiple, ThumbAddress, ThumbLoadLiteral, ThumbBranchIf, ThumbBranch, ThumbBlPrefix, ThumbBlSuffix}
-use Rattle.arm_words.specs.declared.operations.HalfOp.{HalfOp}
-use Rattle.arm_words.specs.declared.operations.HalfOp.TheVariants.{Strh, Ldrh, Ldrsb, Ldrsh}
+use Rattle.arm_words.specs.ThumbTable.{thumb_branch_rows, thumb_literal_rows, thumb_multiple_rows, thumb_offset_rows, thumb_register_rows, thumb_stack_rows, thumb_sum_rows}
+use Rattle.arm_words.specs.declared.instructions.Instr.TheVariants.{ThumbImmediate, ThumbData, ThumbHigh, ThumbRegisterOffset, ThumbPushPop, ThumbMultiple}
 use Rattle.arm_words.specs.declared.operations.HighOp.{HighOp}
 use Rattle.arm_words.specs.declared.operations.HighOp.TheVariants as high_ops
 use Rattle.arm_words.specs.declared.operations.ThumbDataOp.{ThumbDataOp}
@@ -26,40 +29,14 @@ use Rattle.arm_words.specs.declared.operations.ThumbTransferOp.{ThumbTransferOp}
 use Rattle.arm_words.specs.declared.operations.ThumbTransferOp.TheVariants as transfer_ops
 use Rattle.arm_words.specs.declared.parts.Operand.{Operand}
 use Rattle.arm_words.specs.declared.parts.Operand.TheVariants.{ShiftedByRegister}
-use Rattle.arm_core.proofs.Footprints.{count_listed}
-use Rattle.arm_core.specs.Addressing.{addressed, offset_value, short_offset_value}
-use Rattle.arm_core.specs.Conditions.{holds}
 use Rattle.arm_core.specs.Costs.{HasClocks, clocks, jump_clocks}
 use Rattle.arm_core.specs.DataProcessing.{operand_class}
-use Rattle.arm_core.specs.Effects.{Meaning, Outcome, carried_out, concluded, cost_of}
-use Rattle.arm_core.specs.Enhanced.{enhanced_meaning, link_meaning}
-use Rattle.arm_core.specs.Exceptions.{interrupt_meaning, undefined_meaning}
-use Rattle.arm_core.specs.Meanings.{act, act_branch, act_multiply, act_processing, condition, meaning, skipped}
-use Rattle.arm_core.specs.Registers.{RegisterState, is_thumb, register}
-use Rattle.arm_core.specs.Steps.{FetchOutcome, Setting, enters, executed_unless, executed_word, fetched, fetched_half, fetched_word, stop_of}
-use Rattle.arm_core.specs.Thumb.{address_instr, equivalent, high_instr, immediate_instr, offset_instr, register_instr, stack_instr}
-use Rattle.arm_core.specs.Transfers.{half_or_signed_meaning, load_meaning, signed_byte, signed_half, signed_half_meaning, word_or_byte_meaning}
-use Rattle.arm_core.specs.Undefined.{has_coprocessor}
-use Rattle.arm_core.specs.declared.addresses.Addressed.{Addressed}
+use Rattle.arm_core.specs.Thumb.{address_instr, high_instr, immediate_instr, offset_instr, register_instr, stack_instr}
 use Rattle.arm_core.specs.declared.classes.Class.{Class}
 use Rattle.arm_core.specs.declared.classes.Class.TheVariants as classes
 use Rattle.arm_core.specs.declared.outcomes.Stepped as arm
-use Rattle.arm_core.specs.declared.outcomes.Stepped.TheVariants.{Cost, Halted, Left}
-use Rattle.arm7_exec.specs.Arm7.{arm7}
-use Rattle.arm9_exec.specs.Arm9.{arm9}
-use Rattle.arm9_exec.specs.Coprocessors.{carried_over, move_of, moved_if, register_moved, written_by}
-use Rattle.arm9_exec.specs.declared.coprocessors.Moved.{Moved}
-use Rattle.cp15_tcm.specs.Registers.{Cp15Register, Cp15State, write_answer}
 use Rattle.cp15_tcm.specs.declared.answers.Mcr.{Mcr}
 use Rattle.cp15_tcm.specs.declared.answers.Mcr.TheVariants as mcr
-use Rattle.ds_base.specs.declared.memories.Width.TheVariants.{Byte, Half, Word}
-use Rattle.ds_map.proofs.Waiting.{nine_most, seven_most}
-use Rattle.ds_map.specs.Views.{NineReach, nine_memory, seven_memory}
-use Rattle.ds_machine.specs.PrivateSides.{SideOf, nine_side, seven_side, side_taken, side_waits}
-use Rattle.ds_machine.specs.Sides.{next_fetch, nine_executed, taken, waits_of_step}
-use Rattle.ds_machine.specs.States.{MachineState}
-use Rattle.ds_machine.specs.Steps.{in_ticks, line_of, nine_reach, outcome_of, seven_reach}
-use Rattle.ds_machine.proofs.FewAccesses.{listed_within}
 use Rattle.ds_machine.proofs.WaitedSteps.{word_brief}
 
 -- A step of a processor costs few ticks.
@@ -337,21 +314,21 @@ nine_few s r number instr None h = word_few nine_memory (arm9 r.cp15) s r number
 nine_few s r number instr (Some move) h = moved_few s r.cp15 move (holds move.cond s.cpsr) refl
 
 module _ {S : Type 0} (memory : MemoryMachine S) (side : SideOf S) where
-  taken_few : ((s : RegisterState) (state : S) (number : ℕ) (instr : Option Instr) → AreListed instr → CostsAtMost 22 (side.executed s state number instr).stepped)
+  taken_few : ((s : RegisterState) (state : S) (number : ℕ) (instr : Option Instr) → AreListed instr → CostsAtMost 22 (side.step.executed s state number instr).stepped)
       → (line : Bool) (s : RegisterState) (state : S) → CostsAtMost 22 (side_taken memory side line s state).stepped
   unfolding taken
   taken_few executed line s state =
-      let setting : Setting = record { arch = side.arch; base = side.base state; in_rom = false } in
-      let f = fetched memory side.arch s state in
-      either (λ (o : Outcome S). CostsAtMost 22 o.stepped) (enters line s) (carried_out memory side.arch s state (interrupt_meaning (side.base state) s))
-      (side.executed s state f.number f.instr) (carried_few memory setting s state (interrupt_meaning (side.base state) s) tt)
-      (executed s state f.number f.instr (fetched_listed memory side.arch s state))
+      let setting : Setting = record { arch = side.step.arch; base = side.step.base state; in_rom = false } in
+      let f = fetched memory side.step.arch s state in
+      either (λ (o : Outcome S). CostsAtMost 22 o.stepped) (enters line s) (carried_out memory side.step.arch s state (interrupt_meaning (side.step.base state) s))
+      (side.step.executed s state f.number f.instr) (carried_few memory setting s state (interrupt_meaning (side.step.base state) s) tt)
+      (executed s state f.number f.instr (fetched_listed memory side.step.arch s state))
 
-  waits_few : ((state : S) (access : Access) → side.wait state access ≤ 8) → (line : Bool) (s : RegisterState) (state : S) → side_waits memory side line s state ≤ 136
+  waits_few : ((state : S) (access : Access) → side.step.wait state access ≤ 8) → (line : Bool) (s : RegisterState) (state : S) → side_waits memory side line s state ≤ 136
   unfolding waits_of_step
   waits_few most line s state =
       let fetch = most state (next_fetch s) in
-      let few = word_brief memory side.wait most side.arch (side.base state) s state (fetched memory side.arch s state).instr in
+      let few = word_brief memory side.step.wait most side.step.arch (side.step.base state) s state (fetched memory side.step.arch s state).instr in
       either (λ (n : ℕ). n ≤ 136) (enters line s) 0 _ (omega arith) (omega (arith, fetch, few))
 
 -- a clock is two ticks at most

@@ -1,24 +1,11 @@
-use Rattle.std.proofs.Common.{ℕ, ◌≡◌, ◌<◌, inl, inr, Bool, true, false, true≢false, List, Option, Some, None, refl, sym, ◌∙◌, ap, subst}
-use Rattle.std.specs.Prelude.{◌||◌}
-use Rattle.ds_base.specs.Schedules.{IsLater, Reschedules}
-use Rattle.ds_base.specs.declared.keys.KeyLine.{KeyLine}
-use Rattle.ds_base.specs.declared.processors.Proc.{Proc}
-use Rattle.ds_base.specs.declared.ticks.Tick.{Tick}
-use Rattle.ds_base.specs.declared.processors.Proc.TheVariants.{Nine, Seven}
-use Rattle.ds_ipc.specs.Ipcs.{other_proc}
-use Rattle.ds_ports.specs.Dues.{io_due}
-use Rattle.ds_ports.specs.Happenings.{Goes, IsIo, IsUnchanged, ReschedulesEach}
-use Rattle.ds_ports.specs.ProcessorIo.{blocks_processor, ProcessorIoState}
-use Rattle.ds_ports.specs.Io.{IoState, io_of, is_held}
-use Rattle.ds_ports.proofs.Later.{ReadLeaves, in_turn, unchanged_is, processor_io_is, io_is}
-use Rattle.ds_runs.specs.Actors.{IsNumbered}
-use Rattle.ds_runs.specs.Owed.{AllReschedule}
+use Rattle.ds_machine.proofs.Words.{ℕ, ◌≡◌, ◌<◌, inl, inr, Bool, true, false, true≢false, List, Option, Some, None, refl, sym, ◌∙◌, ap, subst, ◌||◌}
+use Rattle.ds_machine.proofs.Words.{IsLater, Reschedules, KeyLine, Proc, Tick, Nine, Seven, other_proc, io_due, Goes, IsIo, IsUnchanged}
+use Rattle.ds_machine.proofs.Words.{ReschedulesEach, blocks_processor, ProcessorIoState, IoState, io_of, is_held, ReadLeaves, processor_io_is, io_is}
+use Rattle.ds_machine.proofs.Words.{IsNumbered, AllReschedule, KeyScript, Processor, due_by, due_unless, dues_of, keys_due, processor_due, AreWaiting}
+use Rattle.ds_machine.proofs.Words.{GxState, is_stalled, MachineState, ProcessorState}
+use Rattle.ds_ports.proofs.Later.{in_turn, unchanged_is}
 use Rattle.ds_runs.specs.declared.actors.Actor as actor
-use Rattle.ds_runs.specs.declared.actors.Actor.TheVariants.{KeyScript, Processor}
 use Rattle.ds_runs.proofs.AllActors.{all_of_actors}
-use Rattle.ds_machine.specs.Reference.{due_by, due_unless, dues_of, keys_due, processor_due}
-use Rattle.gx_fifo.specs.GxStates.{AreWaiting, GxState, is_stalled}
-use Rattle.ds_machine.specs.States.{MachineState, ProcessorState}
 
 -- How due ticks move: each stays, or becomes later than a tick.
 

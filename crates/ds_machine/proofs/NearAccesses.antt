@@ -1,24 +1,7 @@
-use Rattle.std.proofs.Common.{ℕ, zero, suc, ◌≡◌, ◌<◌, inl, inr, Bool, true, false, List, [], ◌∷◌, Option, Some, None, refl, ◌∙◌, ap, arith}
-use Rattle.std.specs.Prelude.{◌||◌}
-use Rattle.std.proofs.lemmas.Bool.{or_cases}
-use Rattle.ds_base.specs.Accesses.{Access, Fetch, Performed, Read, Write, perform, refused_or}
-use Rattle.ds_base.specs.declared.left_out.Stop.{Stop}
-use Rattle.ds_base.specs.declared.memories.Width.{Width}
-use Rattle.ds_base.specs.declared.processors.Arch.{Arch}
-use Rattle.ds_base.specs.declared.processors.Arch.TheVariants.{V4, V5}
-use Rattle.ds_base.specs.declared.processors.Proc.{Proc}
-use Rattle.ds_base.specs.declared.processors.Proc.TheVariants.{Nine, Seven}
-use Rattle.ds_base.specs.declared.ticks.Tick.{Tick}
-use Rattle.arm_core.specs.Effects.{Meaning, carried_out, concluded}
-use Rattle.arm_core.specs.Registers.{RegisterState}
-use Rattle.arm_ops.specs.Meanings.{IsNear, is_ram}
-use Rattle.cp15_tcm.specs.TightlyCoupled.{tcm_of}
-use Rattle.cp15_tcm.specs.declared.answers.Tcm.{Tcm}
-use Rattle.cp15_tcm.specs.declared.answers.Tcm.TheVariants.{Itcm, Dtcm, Past}
-use Rattle.ds_map.specs.Accesses.{map_read}
-use Rattle.ds_map.specs.Maps.{MapState}
-use Rattle.ds_map.specs.Views.{NineReach, SevenReach, nine_memory, seven_memory, tcm_read}
-use Rattle.ds_machine.specs.SteadyPorts.{is_steady_port}
+use Rattle.ds_machine.proofs.Words.{ℕ, zero, suc, ◌≡◌, ◌<◌, inl, inr, Bool, true, false, List, [], ◌∷◌, Option, Some, None, refl, ◌∙◌, ap, arith}
+use Rattle.ds_machine.proofs.Words.{◌||◌, or_cases, Access, Fetch, Performed, Read, Write, perform, refused_or, Stop, Width, Arch, V4, V5, Proc, Nine}
+use Rattle.ds_machine.proofs.Words.{Seven, Tick, Meaning, carried_out, concluded, RegisterState, AreNear, is_ram, tcm_of, Tcm, Itcm, Dtcm, Past}
+use Rattle.ds_machine.proofs.Words.{map_read, MapState, NineReach, SevenReach, nine_memory, seven_memory, tcm_read, IoState, is_steady_port}
 use Rattle.ds_machine.proofs.PortReads.{read_io}
 use Rattle.ds_machine.proofs.SteadyPorts.{steady_at}
 use Rattle.ds_machine.proofs.RamAccesses.{ram_read_io, ram_tcm_writes, write_io}
@@ -42,30 +25,32 @@ tcm_reads (Itcm place) r at width near = refl
 tcm_reads (Dtcm place) r at width near = refl
 tcm_reads Past r at width near = near_read Nine r.now r.map at width near
 
--- ---- of each access, of which there is one at most
+-- ---- of each access
 
 -- a write leaves what it leaves, refused or not
-write_unchanged : {S : Type 0} (stop : Option Stop) (left : S) → (refused_or stop left (record { values = []; state = left; stop = None })).state ≡ left
-write_unchanged None left = refl
-write_unchanged (Some stop) left = refl
+write_unchanged : {S : Type 0} (stop : Option Stop) (left : S) (rest : Performed S) (io : S → IoState) → io rest.state ≡ io left → io (refused_or stop left rest).state ≡ io left
+write_unchanged None left rest io h = h
+write_unchanged (Some stop) left rest io h = refl
 
-nine_io : (r : NineReach) (accesses : List Access) → IsNear is_steady_port accesses → (perform nine_memory r accesses).state.map.io ≡ r.map.io
+nine_io : (r : NineReach) (accesses : List Access) → AreNear is_steady_port accesses → (perform nine_memory r accesses).state.map.io ≡ r.map.io
 nine_io r [] near = refl
-nine_io r (Fetch at width ∷ []) near = refl
-nine_io r (Read at width ∷ []) near = tcm_reads (tcm_of r.cp15 at false false) r at width near
-nine_io r (Write at width value ∷ []) ram =
+nine_io r (Fetch at width ∷ rest) near = nine_io r rest near.1
+nine_io r (Read at width ∷ rest) near =
+    let left : NineReach = nine_memory.read_next r at width in nine_io left rest near.1 ∙ tcm_reads (tcm_of r.cp15 at false false) r at width near.0
+nine_io r (Write at width value ∷ rest) near =
     let left : NineReach = nine_memory.write_next r at width value in
-    rw (write_unchanged (nine_memory.refusal r at width value) left) (ram_tcm_writes (tcm_of r.cp15 at true false) r at width value ram)
-nine_io r (access ∷ other ∷ rest) near = absurd near
+    write_unchanged (nine_memory.refusal r at width value) left (perform nine_memory left rest) (λ x. x.map.io) (nine_io left rest near.1)
+    ∙ ram_tcm_writes (tcm_of r.cp15 at true false) r at width value near.0
 
-seven_io : (r : SevenReach) (accesses : List Access) → IsNear is_steady_port accesses → (perform seven_memory r accesses).state.map.io ≡ r.map.io
+seven_io : (r : SevenReach) (accesses : List Access) → AreNear is_steady_port accesses → (perform seven_memory r accesses).state.map.io ≡ r.map.io
 seven_io r [] near = refl
-seven_io r (Fetch at width ∷ []) near = refl
-seven_io r (Read at width ∷ []) near = near_read Seven r.now r.map at width near
-seven_io r (Write at width value ∷ []) ram =
+seven_io r (Fetch at width ∷ rest) near = seven_io r rest near.1
+seven_io r (Read at width ∷ rest) near =
+    let left : SevenReach = seven_memory.read_next r at width in seven_io left rest near.1 ∙ near_read Seven r.now r.map at width near.0
+seven_io r (Write at width value ∷ rest) near =
     let left : SevenReach = seven_memory.write_next r at width value in
-    rw (write_unchanged (seven_memory.refusal r at width value) left) (write_io Seven r.now r.map at width value ram)
-seven_io r (access ∷ other ∷ rest) near = absurd near
+    write_unchanged (seven_memory.refusal r at width value) left (perform seven_memory left rest) (λ x. x.map.io) (seven_io left rest near.1)
+    ∙ write_io Seven r.now r.map at width value near.0
 
 -- ---- so none does that an operation makes
 
@@ -75,14 +60,14 @@ state_left arch old m done (Some stop) = refl
 
 -- where it is run, by its cost, and where it isn't
 pub nine_stays : (cost : ℕ) (s : RegisterState) (r after : NineReach) (m : Meaning) → (cost ≡ 0 → after ≡ r)
-    → (0 < cost → after ≡ (carried_out nine_memory V5 s r m).state) → (0 < cost → IsNear is_steady_port m.accesses) → after.map.io ≡ r.map.io
+    → (0 < cost → after ≡ (carried_out nine_memory V5 s r m).state) → (0 < cost → AreNear is_steady_port m.accesses) → after.map.io ≡ r.map.io
 nine_stays zero s r after m none some near = ap (λ (x : NineReach). x.map.io) (none refl)
 nine_stays (suc cost) s r after m none some near =
     let done : Performed NineReach = perform nine_memory r m.accesses in
     ap (λ (x : NineReach). x.map.io) (some (omega arith) ∙ state_left V5 s m done done.stop) ∙ nine_io r m.accesses (near (omega arith))
 
 pub seven_stays : (cost : ℕ) (s : RegisterState) (r after : SevenReach) (m : Meaning) → (cost ≡ 0 → after ≡ r)
-    → (0 < cost → after ≡ (carried_out seven_memory V4 s r m).state) → (0 < cost → IsNear is_steady_port m.accesses) → after.map.io ≡ r.map.io
+    → (0 < cost → after ≡ (carried_out seven_memory V4 s r m).state) → (0 < cost → AreNear is_steady_port m.accesses) → after.map.io ≡ r.map.io
 seven_stays zero s r after m none some near = ap (λ (x : SevenReach). x.map.io) (none refl)
 seven_stays (suc cost) s r after m none some near =
     let done : Performed SevenReach = perform seven_memory r m.accesses in

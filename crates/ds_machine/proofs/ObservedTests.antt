@@ -1,39 +1,15 @@
-use Rattle.std.proofs.Common.{ℕ, ◌≡◌, ◌<◌, ◌-◌, ◌/◌, nat_le, not, if◌then◌else◌, Bool, true, false, true≢false, List, [], ◌∷◌, Option, Some, None, refl, sym, ◌∙◌, ap, subst, arith}
-use Rattle.std.specs.Prelude.{◌&&◌, ◌||◌, IsSome}
-use Rattle.std.proofs.lemmas.Bool.{not-true, or_from, or_parts}
-use Rattle.ds_base.specs.Accesses.{Access, Fetch, Read, Write}
-use Rattle.ds_base.specs.declared.processors.Arch.TheVariants.{V5}
-use Rattle.ds_base.specs.declared.processors.Proc.TheVariants.{Nine}
-use Rattle.ds_base.specs.declared.ticks.Tick.{Tick}
-use Rattle.arm_words.specs.declared.instructions.Instr.{Instr}
-use Rattle.arm_core.specs.Footprints.{AreOfData}
-use Rattle.arm_core.specs.Meanings.{meaning}
-use Rattle.arm_core.specs.Registers.{RegisterState}
-use Rattle.arm_core.specs.declared.touches.Reach.{Reach}
-use Rattle.arm_ops.specs.Meanings.{access_made, access_meaning, accesses_by}
-use Rattle.arm_ops.specs.Operations.{is_other, loads, operation_of}
-use Rattle.arm_ops.specs.declared.operations.DataAccess.{DataAccess}
-use Rattle.arm_ops.specs.declared.operations.Operation.{Operation}
-use Rattle.cp15_tcm.specs.Registers.{Cp15State}
-use Rattle.cp15_tcm.specs.TightlyCoupled.{in_dtcm, in_itcm, tcm_of}
-use Rattle.cp15_tcm.specs.declared.answers.Tcm.TheVariants.{Itcm, Dtcm, Past}
-use Rattle.ds_map.specs.Views.{NineReach}
-use Rattle.ds_places.specs.AddressTables.{BootRom, Cells, Content, Empty, Ports, Region, Video, place_at, place_by, place_of, regions_of_nine}
-use Rattle.ds_places.specs.declared.kinds.Place.{Place}
-use Rattle.ds_places.proofs.Rows.{from_same, upto_same}
+use Rattle.ds_machine.proofs.Words.{ℕ, ◌≡◌, ◌<◌, ◌-◌, ◌/◌, nat_le, if◌then◌else◌, Bool, true, false, true≢false, List, [], ◌∷◌, Option, Some, None}
+use Rattle.ds_machine.proofs.Words.{refl, sym, ◌∙◌, ap, subst, arith, ◌&&◌, ◌||◌, IsSome, not-true, or_from, or_parts, Access, Fetch, Read, Write, V5}
+use Rattle.ds_machine.proofs.Words.{Nine, Tick, Instr, AreOfData, meaning, RegisterState, Reach, access_made, access_meaning, accesses_by, is_other}
+use Rattle.ds_machine.proofs.Words.{loads, operation_of, DataAccess, Operation, Cp15State, in_dtcm, in_itcm, tcm_of, Itcm, Dtcm, Past, NineReach}
+use Rattle.ds_machine.proofs.Words.{BootRom, Cells, Content, Empty, Ports, Region, place_at, place_by, place_of, regions_of_nine, Place, from_same}
+use Rattle.ds_machine.proofs.Words.{upto_same, actor_of, due_at, any_observes, is_observed_past, is_observed_place, AllReachPrivate, data_accesses}
+use Rattle.ds_machine.proofs.Words.{due_by, dues_of, SideOf, nine_side, MachineState, nine_reach, tick_of, GoesByWords, IsFootprint, instr_at}
+use Rattle.std.proofs.Common.{not}
+use Rattle.ds_places.specs.AddressTables.{Video}
 use Rattle.ds_map.proofs.ObservedPorts.{observed_same}
-use Rattle.ds_runs.specs.Actors.{actor_of}
-use Rattle.ds_runs.specs.Runs.{due_at}
 use Rattle.ds_runs.specs.declared.actors.Actor as actor
-use Rattle.ds_machine.specs.Lagging.{any_observes, is_observed_past, is_observed_place}
 use Rattle.ds_machine.specs.Observing.{data_unobserved, made_observed}
-use Rattle.ds_machine.specs.Private.{AllReachPrivate}
-use Rattle.ds_machine.specs.Sides.{data_accesses}
-use Rattle.ds_machine.specs.Reference.{due_by, dues_of}
-use Rattle.ds_machine.specs.PrivateSides.{SideOf, nine_side}
-use Rattle.ds_machine.specs.States.{MachineState}
-use Rattle.ds_machine.specs.Steps.{nine_reach, tick_of}
-use Rattle.ds_machine.specs.Touching.{GoesByWords, IsFootprint, instr_at}
 use Rattle.ds_machine.proofs.DecodedStays.{IsOne, accesses_known, one_by, same_word}
 use Rattle.ds_machine.proofs.DueTicks.{due_of_rank, low_rank}
 use Rattle.ds_machine.proofs.PlacesByWords.{are_rows, dtcm_same, itcm_same, row_facts, rows_of_nine}
@@ -130,10 +106,10 @@ same_test false false h k = absurd (true≢false (sym (k refl)))
 
 pub instr_observes_by : (s : MachineState) (instr : Instr) (reach : Reach) → IsFootprint s Nine instr reach
     → not (data_unobserved s reach)
-    ≡ any_observes (nine_reach (tick_of s.nine.processor) s) (data_accesses V5 (nine_side.base (nine_reach (tick_of s.nine.processor) s)) s.nine.processor.registers (Some instr))
+    ≡ any_observes (nine_reach (tick_of s.nine.processor) s) (data_accesses V5 (nine_side.step.base (nine_reach (tick_of s.nine.processor) s)) s.nine.processor.registers (Some instr))
 instr_observes_by s instr reach is =
     let r = nine_reach (tick_of s.nine.processor) s in
-    let base = nine_side.base r in
+    let base = nine_side.step.base r in
     let m = meaning V5 base s.nine.processor.registers instr in
     let low = is.words base in
     same_test (data_unobserved s reach) (any_observes r m.accesses)
@@ -161,7 +137,7 @@ made_by s registers (Some it) =
 pub operation_observes_by : (s : MachineState) (operation : Operation) → operation ≡ operation_of (instr_at s Nine) → is_other operation.op ≡ false
     → made_observed s (access_made s.nine.processor.registers operation)
     ≡ any_observes (nine_reach (tick_of s.nine.processor) s)
-    (data_accesses V5 (nine_side.base (nine_reach (tick_of s.nine.processor) s)) s.nine.processor.registers (instr_at s Nine))
+    (data_accesses V5 (nine_side.step.base (nine_reach (tick_of s.nine.processor) s)) s.nine.processor.registers (instr_at s Nine))
 operation_observes_by s operation e known =
     let r = nine_reach (tick_of s.nine.processor) s in
     let registers = s.nine.processor.registers in
@@ -169,7 +145,7 @@ operation_observes_by s operation e known =
     let other = subst (λ (o : Operation). is_other o.op ≡ false) e known in
     made_by s registers (access_made registers operation)
     ∙ ap (λ (o : Operation). any_observes r (accesses_by V5 registers (access_made registers o))) e
-    ∙ sym (ap (any_observes r) (accesses_known V5 (nine_side.base r) registers instr other))
+    ∙ sym (ap (any_observes r) (accesses_known V5 (nine_side.step.base r) registers instr other))
 
 -- an actor that is due by its rank
 pub low_if_due : (s : MachineState) (rank : ℕ) → IsSome (due_at (dues_of s) rank) → rank < 24

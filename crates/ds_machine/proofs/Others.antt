@@ -1,26 +1,9 @@
-use Rattle.std.proofs.Common.{ℕ, ◌≡◌, false, true, Option, Some, None, refl, sym, ◌∙◌, subst}
-use Rattle.ds_base.specs.declared.memories.Width.{Width}
-use Rattle.ds_base.specs.declared.processors.Proc.{Proc}
-use Rattle.ds_base.specs.declared.processors.Proc.TheVariants.{Nine, Seven}
-use Rattle.ds_base.specs.declared.ticks.Tick.{Tick}
-use Rattle.arm_core.specs.Registers.{RegisterState}
-use Rattle.arm_words.specs.declared.instructions.Instr.{Instr}
-use Rattle.arm7_exec.specs.Arm7.{arm7}
-use Rattle.arm9_exec.specs.Arm9.{arm9}
-use Rattle.arm9_exec.specs.Coprocessors.{move_of}
-use Rattle.arm9_exec.specs.declared.coprocessors.Moved.{Moved}
-use Rattle.cp15_tcm.specs.TightlyCoupled.{tcm_of}
-use Rattle.cp15_tcm.specs.declared.answers.Tcm.{Tcm}
-use Rattle.cp15_tcm.specs.declared.answers.Tcm.TheVariants.{Itcm, Dtcm, Past}
-use Rattle.ds_map.specs.Views.{NineReach, SevenReach, nine_memory, seven_memory, tcm_read, tcm_written}
-use Rattle.ds_map.proofs.Later.{map_read_goes, map_write_goes}
-use Rattle.ds_ports.specs.Happenings.{Goes, IsProcessorIo, HasOnlyLaterEvents}
-use Rattle.ds_ports.specs.Io.{IoState, io_of}
+use Rattle.ds_machine.proofs.Words.{ℕ, ◌≡◌, false, true, Option, Some, None, refl, sym, ◌∙◌, subst, Width, Proc, Nine, Seven, Tick, RegisterState}
+use Rattle.ds_machine.proofs.Words.{Instr, arm7, arm9, move_of, Moved, tcm_of, Tcm, Itcm, Dtcm, Past, NineReach, SevenReach, nine_memory}
+use Rattle.ds_machine.proofs.Words.{seven_memory, tcm_read, tcm_written, map_write_goes, Goes, IsProcessorIo, HasOnlyLaterEvents, IoState, io_of}
+use Rattle.ds_machine.proofs.Words.{nine_side, seven_side, nine_executed, MachineState, line_of, nine_reach, outcome_of, seven_reach}
+use Rattle.ds_map.proofs.Later.{map_read_goes}
 use Rattle.ds_ports.proofs.Later.{goes_nowhere, goes_on}
-use Rattle.ds_machine.specs.PrivateSides.{nine_side, seven_side}
-use Rattle.ds_machine.specs.Sides.{nine_executed}
-use Rattle.ds_machine.specs.States.{MachineState}
-use Rattle.ds_machine.specs.Steps.{line_of, nine_reach, outcome_of, seven_reach}
 use Rattle.ds_machine.proofs.Keeps.{Follows, taken_follows, word_follows}
 
 -- What a processor's step at a tick makes of the units behind the ports.

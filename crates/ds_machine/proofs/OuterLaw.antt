@@ -1,46 +1,22 @@
-use Rattle.std.specs.Prelude.{◌==◌, ◌&&◌, ◌||◌, not, if◌then◌else◌}
-use Rattle.std.specs.Int.{bit_at, bit_not, w32}
-use Rattle.std.proofs.Common.{ℕ, ◌≡◌, ◌≢◌, ◌<◌, ◌⊎◌, inl, inr, Bool, true, false, List, [], Option, Some, None, bit_and, bit_or, refl, sym, ◌∙◌, ap, subst, arith}
-use Rattle.std.proofs.lemmas.Nat.Bits.{bit_at_and, bit_at_or, same_from_bits}
-use Rattle.std.proofs.lemmas.Bool.{and_parts, not-true}
-use Rattle.ds_base.proofs.Choices.{equal, true_or_false}
-use Rattle.ds_base.specs.declared.left_out.LeftOut.{LeftOut}
-use Rattle.ds_base.specs.declared.processors.Proc.{Proc}
-use Rattle.ds_base.specs.declared.processors.Proc.TheVariants.{Nine, Seven}
-use Rattle.ds_base.specs.declared.ticks.Tick.{Tick}
-use Rattle.ds_card.specs.Cards.{card_due_for}
-use Rattle.ds_map.specs.Shares.{IsSharedSo}
-use Rattle.ds_map.specs.Views.{NineReach, SevenReach}
-use Rattle.ds_ports.specs.Acting.{is_quiet}
-use Rattle.ds_ports.specs.Happenings.{IsTold, ipc_bits}
-use Rattle.ds_ports.specs.Io.{IoState, io_of, is_settled, level_told, release_by, release_of, settled}
-use Rattle.ds_ports.specs.ProcessorIo.{blocks_processor, processor_io_triggered}
+use Rattle.ds_machine.proofs.Words.{◌&&◌, ◌||◌, not, bit_at, bit_not, w32, ℕ, ◌≡◌, ◌≢◌, ◌<◌, ◌⊎◌, inl, inr, Bool, true, false, List, [], Option, Some}
+use Rattle.ds_machine.proofs.Words.{None, bit_and, bit_or, refl, sym, ◌∙◌, ap, subst, arith, bit_at_and, bit_at_or, same_from_bits, and_parts}
+use Rattle.ds_machine.proofs.Words.{not-true, equal, true_or_false, LeftOut, Proc, Nine, Seven, Tick, card_due_for, IsSharedSo, NineReach, SevenReach}
+use Rattle.ds_machine.proofs.Words.{is_quiet, IsTold, ipc_bits, IoState, io_of, is_settled, level_told, release_by, release_of, settled}
+use Rattle.ds_machine.proofs.Words.{blocks_processor, processor_io_triggered, actor_of, MovesOn, IsLeast, MachineStep, Makes, Stops, due_at}
+use Rattle.ds_machine.proofs.Words.{KeyScript, Video, Timer, Divider, SquareRoot, Geometry, Card, Dma, Processor, DmaState, awaits_geometry}
+use Rattle.ds_machine.proofs.Words.{channel_due, dma_due, actors_differ, same_makes, not_both, IrqState, irq_levelled, level, timer_at, timer_due}
+use Rattle.ds_machine.proofs.Words.{GxState, gx_finished, gx_level, is_half_empty, is_stalled, scan_due_tick, acting_dues, NineOwn, nine_own_of}
+use Rattle.ds_machine.proofs.Words.{with_nine_own, with_seven_part, step_with, enters, IsBelowFence, hears_nobody, rank_of, IsHarmless, RunsAhead}
+use Rattle.ds_machine.proofs.Words.{Fences, Shown, awake, due_by, due_unless, dues_of, keys_due, reference, reference_step, step_by, HasSoundParts}
+use Rattle.ds_machine.proofs.Words.{IsSound, MachineState, ProcessorState, SevenState, ended, goes_on, is_blocked, is_halted, line_of}
+use Rattle.ds_machine.proofs.Words.{machine_settled, nine_reach, processor_of, seven_reach, tick_of, wakes, woken_one, fence_due}
+use Rattle.std.specs.Prelude.{◌==◌, if◌then◌else◌}
 use Rattle.ds_dma.specs.declared.controls.Cause.TheVariants as causes
-use Rattle.ds_runs.specs.Actors.{actor_of}
-use Rattle.ds_runs.specs.Ahead.{HasOwnPart, MayRunAhead, MovesOn}
-use Rattle.ds_runs.specs.Runs.{IsLeast, MachineStep, Makes, Stops, due_at}
+use Rattle.ds_runs.specs.Ahead.{HasOwnPart, MayRunAhead}
 use Rattle.ds_runs.specs.declared.actors.Actor as actor
-use Rattle.ds_runs.specs.declared.actors.Actor.TheVariants.{KeyScript, Video, Timer, Divider, SquareRoot, Geometry, Card, Dma, Processor}
-use Rattle.ds_dma.specs.States.{DmaState, awaits_geometry, channel_due, dma_due}
 use Rattle.ds_runs.proofs.Ahead.{ahead_from_own}
-use Rattle.ds_runs.proofs.AllActors.{actors_differ, moves_of_actors}
-use Rattle.ds_runs.proofs.RunLaws.{same_makes, not_both}
-use Rattle.ds_timers.specs.Irqs.{IrqState, irq_levelled, level}
-use Rattle.ds_timers.specs.Timing.{timer_at, timer_due}
-use Rattle.gx_fifo.specs.GxStates.{GxState, gx_finished, gx_level, is_half_empty, is_stalled}
-use Rattle.video2d.specs.Scans.{scan_due_tick}
-use Rattle.ds_machine.specs.Acting.{acting_dues}
-use Rattle.ds_machine.specs.Apart.{NineOwn, nine_own_of, with_nine_own, with_seven_part}
-use Rattle.ds_machine.specs.Touched.{step_with}
-use Rattle.arm_core.specs.Steps.{enters}
-use Rattle.ds_machine.specs.Private.{IsBelowFence, IsHarmless, RunsAhead, hears_nobody, rank_of}
-use Rattle.ds_machine.specs.Hearing.{Fences}
-use Rattle.ds_machine.specs.Reference.{Shown, awake, due_by, due_unless, dues_of, keys_due, reference, reference_step, step_by}
-use Rattle.ds_machine.specs.Sound.{HasSoundParts, IsSound}
-use Rattle.ds_machine.specs.States.{MachineState, ProcessorState, SevenState}
-use Rattle.ds_machine.specs.Steps.{ended, goes_on, is_blocked, is_halted, line_of, machine_settled, nine_reach, processor_of, seven_reach, tick_of, wakes, woken_one}
+use Rattle.ds_runs.proofs.AllActors.{moves_of_actors}
 use Rattle.ds_machine.proofs.ActingDues.{acting_low, acting_of_rank, acts_then, loud_same}
-use Rattle.ds_machine.specs.FenceTicks.{fence_due}
 use Rattle.ds_machine.proofs.DueTicks.{due_of_least, due_of_rank, low_rank}
 use Rattle.ds_machine.proofs.FenceFirsts.{fences_as, fences_there, there_fences}
 use Rattle.ds_machine.proofs.InnerLaw.{HasOwnOf, IsCalm, MovesAlone, after_nine, after_seven, calm, harmless_by_part, inner_nine, inner_seven, nine_fits, nine_moves, seven_moves}

@@ -1,31 +1,12 @@
-use Rattle.std.proofs.Common.{ℕ, ◌≡◌, ◌≢◌, List, [], Option, Some, None, refl, sym, ◌∙◌, ap, subst}
-use Rattle.ds_base.specs.declared.left_out.LeftOut.{LeftOut}
-use Rattle.ds_base.specs.declared.processors.Proc.{Proc}
-use Rattle.ds_base.specs.declared.processors.Proc.TheVariants.{Nine, Seven}
-use Rattle.ds_base.specs.declared.ticks.Tick.{Tick}
+use Rattle.ds_machine.proofs.Words.{ℕ, ◌≡◌, ◌≢◌, List, [], Option, Some, None, refl, sym, ◌∙◌, ap, subst, LeftOut, Proc, Nine, Seven, Tick, Cost}
+use Rattle.ds_machine.proofs.Words.{Halted, Left, card_due, card_due_for, card_starter, other_proc, next_unit, IsTold, IoState, io_of}
+use Rattle.ds_machine.proofs.Words.{ProcessorIoState, MachineStep, Makes, KeyScript, Video, Timer, Geometry, Card, Dma, Processor, same_makes}
+use Rattle.ds_machine.proofs.Words.{IrqState, nine_own_of, with_seven_part, machine_graft, step_with, unchanged_by, channel_step, Fences, Shown}
+use Rattle.ds_machine.proofs.Words.{after_event, step_by, MachineState, left_by, gone_by}
 use Rattle.arm_core.specs.declared.outcomes.Stepped as arm
-use Rattle.arm_core.specs.declared.outcomes.Stepped.TheVariants.{Cost, Halted, Left}
-use Rattle.ds_card.specs.Cards.{card_due, card_due_for, card_starter}
 use Rattle.ds_card.proofs.Schedules.{event_leaves_other}
-use Rattle.ds_ipc.specs.Ipcs.{other_proc}
-use Rattle.ds_map.specs.Moves.{next_unit}
-use Rattle.ds_ports.specs.Happenings.{IsTold}
-use Rattle.ds_ports.specs.Io.{IoState, io_of}
-use Rattle.ds_ports.specs.ProcessorIo.{ProcessorIoState}
 use Rattle.ds_ports.proofs.Later.{unchanged_same}
-use Rattle.ds_runs.specs.Runs.{MachineStep, Makes}
 use Rattle.ds_runs.specs.declared.actors.Actor as actor
-use Rattle.ds_runs.specs.declared.actors.Actor.TheVariants.{KeyScript, Video, Timer, Geometry, Card, Dma, Processor}
-use Rattle.ds_runs.proofs.RunLaws.{same_makes}
-use Rattle.ds_timers.specs.Irqs.{IrqState}
-use Rattle.ds_machine.specs.Apart.{nine_own_of, with_seven_part}
-use Rattle.ds_machine.specs.Touched.{machine_graft, step_with, unchanged_by}
-use Rattle.ds_machine.specs.Channels.{channel_step}
-use Rattle.ds_machine.specs.Hearing.{Fences}
-use Rattle.ds_machine.specs.Reference.{Shown, after_event, step_by}
-use Rattle.ds_machine.specs.States.{MachineState}
-use Rattle.ds_machine.specs.Statuses.{left_by}
-use Rattle.ds_machine.specs.Steps.{gone_by}
 use Rattle.ds_machine.proofs.Apart.{leave_seven, none_of_seven}
 use Rattle.ds_machine.proofs.ChannelEvents.{channel_made, machine_after_unit, unit_card, unit_gx, unit_released, unit_video}
 use Rattle.ds_machine.proofs.MachineSchedule.{Steps, channel_timers, operation}

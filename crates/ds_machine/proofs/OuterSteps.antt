@@ -1,12 +1,6 @@
-use Rattle.std.proofs.Common.{◌≡◌, Bool, true, false, if◌then◌else◌, refl, sym, ◌∙◌, ap}
-use Rattle.ds_base.specs.declared.processors.Proc.{Proc}
-use Rattle.ds_base.specs.declared.processors.Proc.TheVariants.{Nine, Seven}
-use Rattle.ds_base.specs.declared.ticks.Tick.{Tick}
-use Rattle.ds_ports.specs.Io.{IoState, io_of, settled}
-use Rattle.ds_ports.specs.ProcessorIo.{ProcessorIoState}
-use Rattle.ds_machine.specs.Apart.{with_seven_part}
-use Rattle.ds_machine.specs.States.{MachineState, SevenState}
-use Rattle.ds_machine.specs.Steps.{ended, goes_on, is_halted, machine_settled, wakes, woken_one}
+use Rattle.ds_machine.proofs.Words.{◌≡◌, Bool, true, false, if◌then◌else◌, refl, sym, ◌∙◌, ap, Proc, Nine, Seven, Tick, IoState, io_of, settled}
+use Rattle.ds_machine.proofs.Words.{ProcessorIoState, with_seven_part, MachineState, SevenState, ended, goes_on, is_halted, machine_settled, wakes}
+use Rattle.ds_machine.proofs.Words.{woken_one}
 use Rattle.ds_machine.proofs.Wakes.{settle_leaves}
 
 -- A step of an actor that doesn't reach a processor's own part comes to the same with another own part, also with what follows it, where the processor isn't halted.

@@ -1,25 +1,10 @@
-use Rattle.std.proofs.Common.{ℕ, ◌≡◌, ◌<◌, inl, inr, Bool, true, false, true≢false, List, [], Option, Some, None, refl, sym, ◌∙◌, ap, subst, arith}
-use Rattle.ds_base.specs.Schedules.{IsLater}
-use Rattle.ds_base.specs.declared.processors.Proc.{Proc}
-use Rattle.ds_base.specs.declared.processors.Proc.TheVariants.{Nine, Seven}
-use Rattle.ds_base.specs.declared.ticks.Tick.{Tick}
+use Rattle.ds_machine.proofs.Words.{ℕ, ◌≡◌, ◌<◌, inl, inr, Bool, true, false, true≢false, List, [], Option, Some, None, refl, sym, ◌∙◌, ap, subst}
+use Rattle.ds_machine.proofs.Words.{arith, IsLater, Proc, Nine, Seven, Tick, Cost, Halted, Left, HasOnlyLaterEvents, io_of, still_later, actor_of}
+use Rattle.ds_machine.proofs.Words.{IsLeast, Makes, due_at, Processor, same_makes, not_both, acting_dues, CatchesUpIf, observes_by, rank_of}
+use Rattle.ds_machine.proofs.Words.{BelongsToTurn, own_remaining, ticks_left, Shown, awake, processor_due, reference_step, step_by, HasSoundParts}
+use Rattle.ds_machine.proofs.Words.{MachineState, ended, gone_by, machine_concluded, processor_of}
 use Rattle.arm_core.specs.declared.outcomes.Stepped as arm
-use Rattle.arm_core.specs.declared.outcomes.Stepped.TheVariants.{Cost, Halted, Left}
-use Rattle.ds_ports.specs.Happenings.{HasOnlyLaterEvents}
-use Rattle.ds_ports.specs.Io.{io_of}
-use Rattle.ds_ports.proofs.Later.{still_later}
-use Rattle.ds_runs.specs.Actors.{actor_of}
-use Rattle.ds_runs.specs.Runs.{IsLeast, Makes, due_at}
-use Rattle.ds_runs.specs.declared.actors.Actor.TheVariants.{Processor}
-use Rattle.ds_runs.proofs.RunLaws.{same_makes, not_both}
-use Rattle.ds_machine.specs.Acting.{acting_dues}
-use Rattle.ds_machine.specs.Lagging.{CatchesUpIf, observes_by}
-use Rattle.ds_machine.specs.Private.{rank_of}
-use Rattle.ds_machine.specs.TurnSteps.{BelongsToTurn, TurnStepsFall, own_remaining, ticks_left}
-use Rattle.ds_machine.specs.Reference.{Shown, awake, processor_due, reference_step, step_by}
-use Rattle.ds_machine.specs.Sound.{HasSoundParts}
-use Rattle.ds_machine.specs.States.{MachineState}
-use Rattle.ds_machine.specs.Steps.{ended, gone_by, machine_concluded, processor_of}
+use Rattle.ds_machine.specs.TurnLaws.{TurnStepsFall}
 use Rattle.ds_machine.proofs.ActingDues.{acting_processor}
 use Rattle.ds_machine.proofs.CatchingUp.{caught_so}
 use Rattle.ds_machine.proofs.DueTicks.{own_tick}

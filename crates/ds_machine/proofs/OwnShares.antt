@@ -1,40 +1,18 @@
-use Rattle.std.proofs.Common.{ℕ, ◌≡◌, Bool, true, false, if◌then◌else◌, List, [], Option, Some, None, refl, sym, ◌∙◌, ap}
-use Rattle.ds_base.specs.Accesses.{Access, Fetch, Read, Write}
-use Rattle.ds_base.specs.declared.left_out.LeftOut.{LeftOut}
-use Rattle.ds_base.specs.declared.left_out.Stop.{Stop}
-use Rattle.ds_base.specs.declared.processors.Proc.{Proc}
-use Rattle.ds_base.specs.declared.processors.Proc.TheVariants.{Nine, Seven}
-use Rattle.ds_base.specs.declared.ticks.Tick.{Tick}
-use Rattle.arm7_exec.specs.Arm7.{arm7}
-use Rattle.arm_core.specs.Effects.{Outcome}
-use Rattle.arm_core.specs.Steps.{fetched}
+use Rattle.ds_machine.proofs.Words.{ℕ, ◌≡◌, Bool, true, false, if◌then◌else◌, List, [], Option, Some, None, refl, sym, ◌∙◌, ap, Access, Fetch, Read}
+use Rattle.ds_machine.proofs.Words.{Write, LeftOut, Stop, Proc, Nine, Seven, Tick, arm7, Outcome, fetched, Cost, Halted, Left, card_after_event}
+use Rattle.ds_machine.proofs.Words.{card_due, card_starter, MapState, next_unit, unit_moved, unit_refusal, IsSharedSo, is_beyond_seven}
+use Rattle.ds_machine.proofs.Words.{is_shown_to_nine, SevenReach, seven_memory, io_due, IoState, card_done_at, level_told, release_kept, settled}
+use Rattle.ds_machine.proofs.Words.{starter_told, processor_io_triggered, MachineStep, Makes, KeyScript, Video, Timer, Geometry, Card, Dma, Processor}
+use Rattle.ds_machine.proofs.Words.{same_makes, is_half_empty, mixed_length, mixed_same, mixed_twice, mixed, NineOwn, nine_own_of, with_nine_own}
+use Rattle.ds_machine.proofs.Words.{channel_step, moved_by, one_event, Shown, step_by, seven_wait, wait_at, seven_side, side_taken, side_waits}
+use Rattle.ds_machine.proofs.Words.{MachineState, step_with, ended, goes_on, is_halted, line_of, machine_concluded, machine_settled, map_of}
+use Rattle.ds_machine.proofs.Words.{seven_reach, tick_of, wakes, with_io, with_map, with_seven, woken, woken_one}
 use Rattle.arm_core.specs.declared.outcomes.Stepped as arm
-use Rattle.arm_core.specs.declared.outcomes.Stepped.TheVariants.{Cost, Halted, Left}
-use Rattle.ds_card.specs.Cards.{card_after_event, card_due, card_starter}
 use Rattle.ds_dma.specs.declared.controls.Cause.TheVariants as causes
-use Rattle.ds_map.specs.Maps.{MapState}
-use Rattle.ds_map.specs.Moves.{next_unit, unit_moved, unit_refusal}
-use Rattle.ds_map.specs.Shares.{IsSharedSo, SharedPart, is_beyond_seven, is_shown_to_nine, map_put, shares_put}
-use Rattle.ds_map.specs.Views.{SevenReach, seven_memory}
+use Rattle.ds_map.specs.ShareLaws.{SharedPart, map_put, shares_put}
 use Rattle.ds_map.proofs.SevenShares as seven_map
-use Rattle.ds_ports.specs.Dues.{io_due}
-use Rattle.ds_ports.specs.Io.{IoState, card_done_at, level_told, release_kept, settled, starter_told}
-use Rattle.ds_ports.specs.ProcessorIo.{processor_io_triggered}
-use Rattle.ds_runs.specs.Runs.{MachineStep, Makes}
 use Rattle.ds_runs.specs.declared.actors.Actor as actor
-use Rattle.ds_runs.specs.declared.actors.Actor.TheVariants.{KeyScript, Video, Timer, Geometry, Card, Dma, Processor}
-use Rattle.ds_runs.proofs.RunLaws.{same_makes}
-use Rattle.gx_fifo.specs.GxStates.{is_half_empty}
-use Rattle.vram_banks.proofs.Mixes.{mixed_length, mixed_same, mixed_twice}
-use Rattle.vram_banks.specs.Mixes.{mixed}
-use Rattle.ds_machine.specs.Apart.{IsOutside, NineOwn, nine_own_of, with_nine_own}
-use Rattle.ds_machine.specs.Channels.{channel_step, moved_by, one_event}
-use Rattle.ds_machine.specs.Reference.{Shown, step_by}
-use Rattle.ds_map.specs.Waits.{seven_wait, wait_at}
-use Rattle.ds_machine.specs.PrivateSides.{seven_side, side_taken, side_waits}
-use Rattle.ds_machine.specs.States.{MachineState}
-use Rattle.ds_machine.specs.Touched.{step_with}
-use Rattle.ds_machine.specs.Steps.{ended, goes_on, is_halted, line_of, machine_concluded, machine_settled, map_of, seven_reach, tick_of, wakes, with_io, with_map, with_seven, woken, woken_one}
+use Rattle.ds_machine.specs.Apart.{IsOutside}
 use Rattle.ds_machine.proofs.Commutes.{Commutes, step_waits_commute, taken_commutes, word_commutes}
 use Rattle.ds_machine.proofs.Ticks.{ticked, ticked_so}
 use Rattle.ds_machine.proofs.OuterSteps.{not_woken, settled_halted}
@@ -133,7 +111,7 @@ seven_steps rank own s shared =
     (step_waits_commute seven_memory (AllReachedSo own.share) put (seven_commutes own.share) seven_side line old r (λ r access rest i. seven_waits_so own.share r access i)
     (λ width. shared) refl (λ e. shared))
     (taken_commutes seven_memory (AllReachedSo own.share) put (seven_commutes own.share) seven_side line old r shared (λ width. shared) refl (λ e.
-    let fetch = fetched seven_memory seven_side.arch old r in
+    let fetch = fetched seven_memory seven_side.step.arch old r in
     word_commutes seven_memory (AllReachedSo own.share) put (seven_commutes own.share) arm7 old r fetch.number fetch.instr shared shared)))
     ∙ seven_concluded rank own (with_seven s o) o.stepped
 

@@ -1,22 +1,10 @@
-use Rattle.std.proofs.Common.{ℕ, ◌≡◌, Bool, true, false, if◌then◌else◌, Option, Some, None, refl, sym, ◌∙◌, ap}
-use Rattle.ds_base.specs.declared.memories.Width.{Width}
-use Rattle.ds_base.specs.declared.processors.Arch.TheVariants.{V4, V5}
-use Rattle.arm_words.specs.declared.instructions.Instr.{Instr}
-use Rattle.arm_core.specs.Effects.{Outcome}
-use Rattle.arm_core.specs.Registers.{RegisterState, is_thumb}
-use Rattle.arm_core.specs.Steps.{enters, executed_word, fetched, fetched_half, fetched_word}
-use Rattle.arm7_exec.specs.Arm7.{arm7, step7_of}
-use Rattle.arm9_exec.specs.Arm9.{arm9, executed_or_moved, step9_of}
-use Rattle.arm9_exec.specs.Coprocessors.{move_of}
-use Rattle.arm9_exec.specs.declared.coprocessors.Moved.{Moved}
-use Rattle.cp15_tcm.specs.Registers.{Cp15State}
-use Rattle.cp15_tcm.specs.TightlyCoupled.{tcm_of}
-use Rattle.cp15_tcm.specs.declared.answers.Tcm.{Tcm}
-use Rattle.cp15_tcm.specs.declared.answers.Tcm.TheVariants.{Itcm, Dtcm, Past}
-use Rattle.ds_map.specs.Views.{NineReach, SevenReach, nine_memory, seven_memory, tcm_read, tcm_written}
+use Rattle.ds_machine.proofs.Words.{ℕ, ◌≡◌, Bool, true, false, if◌then◌else◌, Option, Some, None, refl, sym, ◌∙◌, ap, Width, V4, V5, Instr, Outcome}
+use Rattle.ds_machine.proofs.Words.{RegisterState, is_thumb, enters, executed_word, fetched, fetched_half, fetched_word, arm7, arm9, move_of, Moved}
+use Rattle.ds_machine.proofs.Words.{Cp15State, tcm_of, Tcm, Itcm, Dtcm, Past, NineReach, SevenReach, nine_memory, seven_memory, tcm_read, tcm_written}
+use Rattle.ds_machine.proofs.Words.{nine_side, seven_side, side_taken, nine_executed}
+use Rattle.arm7_exec.specs.Arm7.{step7_of}
+use Rattle.arm9_exec.specs.Arm9.{executed_or_moved, step9_of}
 use Rattle.ds_machine.specs.OwnSteps.{IsStep7, IsStep9, with_cp15}
-use Rattle.ds_machine.specs.PrivateSides.{nine_side, seven_side, side_taken}
-use Rattle.ds_machine.specs.Sides.{nine_executed}
 use Rattle.ds_machine.proofs.Keeps.{Follows, word_follows}
 use Rattle.ds_machine.proofs.Taken.{taken_entered, taken_executed}
 

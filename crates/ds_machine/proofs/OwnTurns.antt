@@ -1,14 +1,5 @@
-use Rattle.std.proofs.Common.{ℕ, ◌≤◌, ◌^◌, List, arith}
-use Rattle.ds_base.specs.declared.processors.Proc.{Proc}
-use Rattle.ds_base.specs.declared.ticks.Tick.{Tick}
-use Rattle.ds_runs.specs.Actors.{actor_of}
-use Rattle.ds_machine.specs.Counting.{IsRunning, RunsAfter, last_limit}
-use Rattle.ds_machine.specs.Lagging.{CatchesUpFor, observes_by}
-use Rattle.ds_machine.specs.Private.{rank_of}
-use Rattle.ds_machine.specs.States.{MachineState, with_file}
-use Rattle.ds_machine.specs.Statuses.{HasBothStatuses}
-use Rattle.ds_machine.specs.StepAnswers.{Steps}
-use Rattle.ds_machine.specs.TurnSteps.{MayAct, MayStep}
+use Rattle.ds_machine.proofs.Words.{ℕ, ◌≤◌, ◌^◌, List, arith, Proc, Tick, actor_of, IsRunning, RunsAfter, last_limit, CatchesUpFor, observes_by}
+use Rattle.ds_machine.proofs.Words.{rank_of, MachineState, with_file, HasBothStatuses, Steps, MayAct, MayStep}
 use Rattle.ds_machine.specs.declared.answers.Done as answer
 use Rattle.ds_machine.proofs.ActingSteps.{acting_may_step}
 use Rattle.ds_machine.proofs.CatchingUp.{caught_for, caught_statuses}

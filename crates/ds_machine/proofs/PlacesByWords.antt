@@ -1,25 +1,16 @@
-use Rattle.std.proofs.Common.{ℕ, ◌≡◌, ◌≤◌, ◌+◌, ◌-◌, ◌*◌, ◌/◌, ◌%◌, ◌^◌, ◌==◌, ◌⊎◌, inl, inr, min, nat_le, nat_lt, not, if◌then◌else◌, Bool, true, false, List, [], ◌∷◌, refl, sym, ◌∙◌, ap, arith}
-use Rattle.std.specs.Prelude.{◌&&◌, ◌||◌}
-use Rattle.std.proofs.lemmas.Bool.{not-true}
-use Rattle.ds_base.proofs.Choices.{lt_cases}
-use Rattle.ds_base.specs.Bits.{bit, bits}
-use Rattle.ds_base.specs.Memories.{memory_size, space_size}
-use Rattle.ds_base.specs.declared.memories.Memory.TheVariants.{Shared, Palette, Oam}
+use Rattle.ds_machine.proofs.Words.{ℕ, ◌≡◌, ◌≤◌, ◌+◌, ◌-◌, ◌*◌, ◌/◌, ◌%◌, ◌^◌, ◌==◌, ◌⊎◌, inl, inr, min, nat_le, nat_lt, if◌then◌else◌, Bool, true}
+use Rattle.ds_machine.proofs.Words.{false, List, [], ◌∷◌, refl, sym, ◌∙◌, ap, arith, ◌&&◌, ◌||◌, not-true, lt_cases, bit, bits, memory_size, Shared}
+use Rattle.ds_machine.proofs.Words.{Palette, Oam, Nine, Cp15State, in_dtcm, in_itcm, tcm_of, Itcm, Dtcm, Past, BootRom, Cells, Content, Empty, Ports}
+use Rattle.ds_machine.proofs.Words.{Region, place_at, place_by, place_of, regions_of_nine, shared_for_nine, Place, from_same, past_row, upto_same}
+use Rattle.ds_machine.proofs.Words.{MapState, is_private_place, NineReach, SevenReach, is_private_tcm, is_private_to_seven, nine_side, seven_side}
+use Rattle.ds_machine.proofs.Words.{GoesByWords}
+use Rattle.std.proofs.Common.{not}
+use Rattle.ds_base.specs.Memories.{space_size}
 use Rattle.ds_base.specs.declared.memories.Space.TheVariants.{Arm7}
-use Rattle.ds_base.specs.declared.processors.Proc.TheVariants.{Nine}
-use Rattle.cp15_tcm.specs.Registers.{Cp15State}
-use Rattle.cp15_tcm.specs.TightlyCoupled.{answers, covered, dtcm_base, in_dtcm, in_itcm, tcm_of}
-use Rattle.cp15_tcm.specs.declared.answers.Tcm.TheVariants.{Itcm, Dtcm, Past}
-use Rattle.ds_places.specs.AddressTables.{BootRom, Cells, Content, Empty, Ports, Region, Video, place_at, place_by, place_of, regions_of_nine, shared_for_nine}
-use Rattle.ds_places.specs.declared.kinds.Place.{Place}
-use Rattle.ds_places.proofs.Rows.{from_same, past_row, upto_same}
-use Rattle.ds_map.specs.Maps.{MapState}
-use Rattle.ds_map.specs.Shares.{is_private_place}
-use Rattle.ds_map.specs.Views.{NineReach, SevenReach}
+use Rattle.cp15_tcm.specs.TightlyCoupled.{answers, covered, dtcm_base}
+use Rattle.ds_places.specs.AddressTables.{Video}
 use Rattle.vram_banks.specs.BankMap.{same_space}
 use Rattle.vram_banks.proofs.Allotted.{not_met}
-use Rattle.ds_machine.specs.PrivateSides.{is_private_tcm, is_private_to_seven, nine_side, seven_side}
-use Rattle.ds_machine.specs.Touching.{GoesByWords}
 
 -- The four bytes of a word that is aligned are private together: all bounds are multiples of 4.
 

@@ -1,20 +1,9 @@
-use Rattle.std.proofs.Common.{ℕ, ◌≡◌, ◌<◌, ◌≤◌, ◌+◌, ◌-◌, Bool, true, false, true≢false, ◌&&◌, nat_le, nat_lt, Option, Some, None, refl, sym, arith}
-use Rattle.ds_base.specs.Numbers.{aligned_down, width_bytes}
-use Rattle.ds_base.specs.declared.memories.Width.{Width}
-use Rattle.ds_base.specs.declared.memories.Width.TheVariants.{Byte, Half, Word}
-use Rattle.ds_base.specs.declared.processors.Proc.{Proc}
-use Rattle.ds_base.specs.declared.processors.Proc.TheVariants.{Nine, Seven}
-use Rattle.ds_base.specs.declared.ticks.Tick.{Tick}
-use Rattle.ds_places.proofs.Rows.{port_place}
-use Rattle.ds_map.specs.Accesses.{map_read}
-use Rattle.ds_map.specs.Maps.{MapState}
-use Rattle.ds_ports.specs.Io.{IoState}
-use Rattle.ds_ports.specs.Ports.{port_read, slot_read, whole_if, whole_in}
-use Rattle.ds_ports.specs.RegisterMap.{PortRow, row_bytes, slot_of}
-use Rattle.ds_ports.specs.Registers.{meaning_of}
-use Rattle.ds_ports.specs.declared.registers.Register.{Register}
-use Rattle.ds_ports.specs.declared.registers.Register.TheVariants.{Ipcfiforecv, CardData}
-use Rattle.ds_ports.specs.declared.registers.Slot.{Slot}
+use Rattle.ds_machine.proofs.Words.{ℕ, ◌≡◌, ◌<◌, ◌≤◌, ◌+◌, ◌-◌, Bool, true, false, true≢false, nat_le, nat_lt, Option, Some, None, refl, sym, arith}
+use Rattle.ds_machine.proofs.Words.{aligned_down, width_bytes, Width, Byte, Half, Word, Proc, Nine, Seven, Tick, port_place, map_read, MapState}
+use Rattle.ds_machine.proofs.Words.{IoState, port_read, slot_read, whole_if, whole_in, slot_of, meaning_of, Register, CardData, Slot}
+use Rattle.std.proofs.Common.{◌&&◌}
+use Rattle.ds_ports.specs.RegisterMap.{PortRow, row_bytes}
+use Rattle.ds_ports.specs.declared.registers.Register.TheVariants.{Ipcfiforecv}
 use Rattle.ds_ports.proofs.Covered.{OfKind, slot_is}
 
 -- A read of a port from 4000000h to 40FFFFFh leaves all units as they are: IPCFIFORECV and the card's data, of which a read takes a

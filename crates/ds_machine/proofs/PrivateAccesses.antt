@@ -1,17 +1,7 @@
-use Rattle.std.proofs.Common.{ℕ, ◌≡◌, ◌<◌, ◌+◌, ◌*◌, Bool, true, false, List, [], ◌∷◌, Option, None, refl, sym, ◌∙◌, ap}
-use Rattle.ds_base.specs.Accesses.{Access, Fetch, MemoryMachine, Performed, Read, Write, perform, refused_or, with_value}
-use Rattle.ds_base.specs.declared.left_out.Stop.{Stop}
-use Rattle.ds_base.specs.declared.memories.Width.{Width}
-use Rattle.ds_base.specs.declared.processors.Arch.{Arch}
-use Rattle.ds_base.specs.Processors.{ticks_per_clock}
-use Rattle.ds_base.specs.declared.processors.Proc.{Proc}
-use Rattle.arm_core.specs.Effects.{Meaning, Outcome, carried_out, concluded, cost_of}
-use Rattle.arm_core.specs.Registers.{RegisterState}
-use Rattle.arm_core.specs.declared.outcomes.Stepped.TheVariants.{Cost}
-use Rattle.arm_exec.proofs.Costs.{some_cost}
-use Rattle.ds_map.specs.Waits.{unless_refused, waits_of}
-use Rattle.ds_machine.specs.Private.{AllReachPrivate, ReachesPrivate}
-use Rattle.ds_machine.specs.PrivateSides.{SideOf}
+use Rattle.ds_machine.proofs.Words.{ℕ, ◌≡◌, ◌<◌, ◌+◌, ◌*◌, Bool, true, false, List, [], ◌∷◌, Option, None, refl, sym, ◌∙◌, ap, Access, Fetch}
+use Rattle.ds_machine.proofs.Words.{MemoryMachine, Performed, Read, Write, perform, refused_or, with_value, Stop, Width, Arch, ticks_per_clock, Proc}
+use Rattle.ds_machine.proofs.Words.{Meaning, Outcome, carried_out, concluded, cost_of, RegisterState, Cost, some_cost, unless_refused, waits_of}
+use Rattle.ds_machine.proofs.Words.{AllReachPrivate, ReachesPrivate, SideOf}
 use Rattle.ds_machine.proofs.Ticks.{some_ticks, ticked}
 
 -- Private accesses change a processor's own part alone, depend on it alone, and aren't refused. What a processor reaches is a part of its own, put into the rest.
@@ -22,7 +12,7 @@ AsPrivate side a b = (writing fetching : Bool) (byte : ℕ) → side.is_private 
 
 pub record IsApart {S O : Type 0} (memory : MemoryMachine S) (side : SideOf S) (put : O → S → S) (wrote : O → ℕ → Width → ℕ → O) : Type 0 where
   -- the vectors' base, and what is private, are told by the own part, and no write changes them
-  pub base : (own : O) (r t : S) → side.base (put own r) ≡ side.base (put own t)
+  pub base : (own : O) (r t : S) → side.step.base (put own r) ≡ side.step.base (put own t)
   pub moves : (own : O) (r t : S) → AsPrivate side (put own r) (put own t)
   pub keeps : (own : O) (at : ℕ) (width : Width) (value : ℕ) (r : S) → AsPrivate side (put own r) (put (wrote own at width value) r)
   -- so is what is fetched and read
@@ -38,7 +28,7 @@ pub record IsApart {S O : Type 0} (memory : MemoryMachine S) (side : SideOf S) (
   pub writes : (own : O) (at : ℕ) (width : Width) (value : ℕ) (r : S) → ReachesPrivate side (put own r) (Write at width value)
       → memory.write_next (put own r) at width value ≡ put (wrote own at width value) r
   -- how long an access waits is told by the own part too
-  pub waits : (own : O) (access : Access) (r t : S) → ReachesPrivate side (put own r) access → side.wait (put own r) access ≡ side.wait (put own t) access
+  pub waits : (own : O) (access : Access) (r t : S) → ReachesPrivate side (put own r) access → side.step.wait (put own r) access ≡ side.step.wait (put own t) access
 
 -- accesses that weren't refused
 abbrev pub performed : {S : Type 0} → List ℕ → S → Performed S
@@ -124,37 +114,37 @@ module _ {S O : Type 0} (memory : MemoryMachine S) (side : SideOf S) (put : O �
   -- how long the accesses after a write wait
   abbrev waits_after : (own : O) (at : ℕ) (width : Width) (value : ℕ) (rest : List Access) (r : S) → ℕ
   waits_after own at width value rest r =
-      unless_refused (memory.refusal (put own r) at width value) (waits_of memory side.wait (memory.write_next (put own r) at width value) rest)
+      unless_refused (memory.refusal (put own r) at width value) (waits_of memory side.step.wait (memory.write_next (put own r) at width value) rest)
 
   wrote_waits : (own : O) (at : ℕ) (width : Width) (value : ℕ) (rest : List Access) (r : S) → ReachesPrivate side (put own r) (Write at width value)
-      → waits_after own at width value rest r ≡ waits_of memory side.wait (put (wrote own at width value) r) rest
+      → waits_after own at width value rest r ≡ waits_of memory side.step.wait (put (wrote own at width value) r) rest
   wrote_waits own at width value rest r h =
-      ap (λ (stop : Option Stop). unless_refused stop (waits_of memory side.wait (memory.write_next (put own r) at width value) rest)) (apart.refuses own at width value r h)
-      ∙ ap (λ (x : S). waits_of memory side.wait x rest) (apart.writes own at width value r h)
+      ap (λ (stop : Option Stop). unless_refused stop (waits_of memory side.step.wait (memory.write_next (put own r) at width value) rest)) (apart.refuses own at width value r h)
+      ∙ ap (λ (x : S). waits_of memory side.step.wait x rest) (apart.writes own at width value r h)
 
   -- they wait as long
   pub waits_alike : (own : O) (r t : S) (accesses : List Access) → AllReachPrivate side (put own r) accesses
-      → waits_of memory side.wait (put own r) accesses ≡ waits_of memory side.wait (put own t) accesses
+      → waits_of memory side.step.wait (put own r) accesses ≡ waits_of memory side.step.wait (put own t) accesses
   waits_alike own r t [] h = refl
   waits_alike own r t (Fetch at width ∷ rest) h =
       let also = access_moves side (put own r) (put own t) (apart.moves own r t) (Fetch at width) h.0 in
-      let first = side.wait (put own t) (Fetch at width) in
-      ap (λ (n : ℕ). n + waits_of memory side.wait (memory.fetch_next (put own r) at width) rest) (apart.waits own (Fetch at width) r t h.0)
-      ∙ ap (λ (x : S). first + waits_of memory side.wait x rest) (apart.fetches own at width r h.0)
+      let first = side.step.wait (put own t) (Fetch at width) in
+      ap (λ (n : ℕ). n + waits_of memory side.step.wait (memory.fetch_next (put own r) at width) rest) (apart.waits own (Fetch at width) r t h.0)
+      ∙ ap (λ (x : S). first + waits_of memory side.step.wait x rest) (apart.fetches own at width r h.0)
       ∙ ap (λ (n : ℕ). first + n) (waits_alike own r t rest h.1)
-      ∙ ap (λ (x : S). first + waits_of memory side.wait x rest) (sym (apart.fetches own at width t also))
+      ∙ ap (λ (x : S). first + waits_of memory side.step.wait x rest) (sym (apart.fetches own at width t also))
   waits_alike own r t (Read at width ∷ rest) h =
       let also = access_moves side (put own r) (put own t) (apart.moves own r t) (Read at width) h.0 in
-      let first = side.wait (put own t) (Read at width) in
-      ap (λ (n : ℕ). n + waits_of memory side.wait (memory.read_next (put own r) at width) rest) (apart.waits own (Read at width) r t h.0)
-      ∙ ap (λ (x : S). first + waits_of memory side.wait x rest) (apart.reads own at width r h.0)
+      let first = side.step.wait (put own t) (Read at width) in
+      ap (λ (n : ℕ). n + waits_of memory side.step.wait (memory.read_next (put own r) at width) rest) (apart.waits own (Read at width) r t h.0)
+      ∙ ap (λ (x : S). first + waits_of memory side.step.wait x rest) (apart.reads own at width r h.0)
       ∙ ap (λ (n : ℕ). first + n) (waits_alike own r t rest h.1)
-      ∙ ap (λ (x : S). first + waits_of memory side.wait x rest) (sym (apart.reads own at width t also))
+      ∙ ap (λ (x : S). first + waits_of memory side.step.wait x rest) (sym (apart.reads own at width t also))
   waits_alike own r t (Write at width value ∷ rest) h =
       let also = access_moves side (put own r) (put own t) (apart.moves own r t) (Write at width value) h.0 in
       let new = wrote own at width value in
       let still = all_move side (put own r) (put new r) (apart.keeps own at width value r) rest h.1 in
-      let first = side.wait (put own t) (Write at width value) in
+      let first = side.step.wait (put own t) (Write at width value) in
       ap (λ (n : ℕ). n + waits_after own at width value rest r) (apart.waits own (Write at width value) r t h.0)
       ∙ ap (λ (n : ℕ). first + n) (wrote_waits own at width value rest r h.0)
       ∙ ap (λ (n : ℕ). first + n) (waits_alike new r t rest still)

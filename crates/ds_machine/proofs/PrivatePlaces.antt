@@ -1,22 +1,11 @@
-use Rattle.std.proofs.Common.{ℕ, zero, suc, ◌≡◌, ◌<◌, ◌≤◌, ◌+◌, ◌-◌, ◌%◌, ◌^◌, ◌⊎◌, ◌&&◌, nat_le, Bool, true, false, true≢false, if◌then◌else◌, List, [], ◌∷◌, None, Contains, inl, inr, refl, sym, ◌∙◌, ap, subst, arith}
-use Rattle.std.proofs.lemmas.List.Elements.{Contains-append_left, Contains-append_right, Contains-push}
-use Rattle.ds_base.specs.Memories.{memory_size}
-use Rattle.ds_base.specs.Numbers.{aligned_down, width_bytes, with_number}
-use Rattle.ds_base.specs.declared.memories.Memory.TheVariants.{Own7}
-use Rattle.ds_base.specs.declared.memories.Width.{Width}
-use Rattle.ds_base.specs.declared.memories.Width.TheVariants.{Byte, Half, Word}
-use Rattle.ds_base.specs.declared.processors.Proc.TheVariants.{Seven}
-use Rattle.ds_base.specs.declared.ticks.Tick.{Tick}
-use Rattle.arm_core.specs.Footprints.{span}
-use Rattle.ds_places.specs.AddressTables.{place_of}
-use Rattle.ds_places.specs.declared.kinds.Place.{Place}
-use Rattle.ds_places.specs.declared.kinds.Place.TheVariants.{Cell, Rom, Nothing}
-use Rattle.ds_places.proofs.Rows.{in_row, past_row}
-use Rattle.ds_map.specs.Accesses.{after_read_at, fetched_at, map_fetched, map_read, map_refusal, map_value, map_written, refusal_at, value_at, written_at}
-use Rattle.ds_map.specs.Maps.{MapState}
-use Rattle.ds_map.specs.Waits.{wait_at}
+use Rattle.ds_machine.proofs.Words.{ℕ, zero, suc, ◌≡◌, ◌<◌, ◌≤◌, ◌+◌, ◌-◌, ◌%◌, ◌^◌, ◌⊎◌, nat_le, Bool, true, false, true≢false, if◌then◌else◌, List}
+use Rattle.ds_machine.proofs.Words.{[], ◌∷◌, None, Contains, inl, inr, refl, sym, ◌∙◌, ap, subst, arith, Contains-append_left, Contains-append_right}
+use Rattle.ds_machine.proofs.Words.{memory_size, aligned_down, width_bytes, with_number, Own7, Width, Byte, Half, Word, Seven, Tick, span, place_of}
+use Rattle.ds_machine.proofs.Words.{Place, Cell, Rom, Nothing, in_row, past_row, after_read_at, fetched_at, map_fetched, map_read, map_refusal}
+use Rattle.ds_machine.proofs.Words.{map_value, map_written, refusal_at, value_at, written_at, MapState, wait_at, is_private_to_seven}
+use Rattle.std.proofs.Common.{◌&&◌}
+use Rattle.std.proofs.lemmas.List.Elements.{Contains-push}
 use Rattle.ds_places.specs.Waits.{wait_of}
-use Rattle.ds_machine.specs.PrivateSides.{is_private_to_seven}
 
 -- An access's own address is private where all of its bytes are. ARM7's private places: the same stands there whatever WRAMCNT says, and an access of it reaches its own work RAM alone.
 

@@ -1,41 +1,15 @@
-use Rattle.std.proofs.Common.{ℕ, ◌≡◌, ◌<◌, ◌≤◌, ◌^◌, Bool, true, false, true≢false, if◌then◌else◌, List, [], Option, Some, None, Contains, inl, inr, refl, sym, ◌∙◌, ap, arith}
-use Rattle.std.specs.Prelude.{not}
-use Rattle.std.proofs.lemmas.Option.{none-some, same_Some}
-use Rattle.ds_base.proofs.Choices.{low_or_high}
-use Rattle.ds_base.specs.Accesses.{Access, Fetch, Read, Write}
-use Rattle.ds_base.specs.Numbers.{aligned_down, width_bytes, with_number}
-use Rattle.ds_base.specs.declared.memories.Width.{Width}
-use Rattle.ds_base.specs.declared.processors.Arch.TheVariants.{V5}
-use Rattle.ds_base.specs.declared.processors.Proc.TheVariants.{Nine}
-use Rattle.arm_words.specs.declared.instructions.Instr.{Instr}
-use Rattle.arm_words.specs.declared.instructions.Instr.TheVariants.{Coprocessor}
-use Rattle.arm_core.specs.Conditions.{holds}
-use Rattle.arm_core.specs.Effects.{Outcome, cost_of}
-use Rattle.arm_core.specs.Footprints.{span}
-use Rattle.arm_core.specs.Meanings.{skipped}
-use Rattle.arm_core.specs.Registers.{RegisterState}
-use Rattle.arm_core.specs.Undefined.{has_coprocessor, is_undefined}
+use Rattle.ds_machine.proofs.Words.{ℕ, ◌≡◌, ◌<◌, ◌≤◌, ◌^◌, Bool, true, false, true≢false, if◌then◌else◌, List, [], Option, Some, None, Contains, inl}
+use Rattle.ds_machine.proofs.Words.{inr, refl, sym, ◌∙◌, ap, arith, not, none-some, same_Some, low_or_high, Access, Fetch, Read, Write, aligned_down}
+use Rattle.ds_machine.proofs.Words.{width_bytes, with_number, Width, V5, Nine, Instr, Coprocessor, holds, Outcome, cost_of, span, skipped}
+use Rattle.ds_machine.proofs.Words.{RegisterState, has_coprocessor, Cost, some_cost, arm7, arm9, MoveOutcome, move_of, moved_if, register_moved}
+use Rattle.ds_machine.proofs.Words.{Moved, Cp15State, tcm_of, Tcm, Itcm, Dtcm, Past, NineReach, SevenReach, nine_memory, seven_memory, tcm_fetched}
+use Rattle.ds_machine.proofs.Words.{tcm_read, tcm_refusal, tcm_value, tcm_written, place_of, IoState, MapState, IsSharedSo, is_private_place}
+use Rattle.ds_machine.proofs.Words.{nine_wait, seven_wait, AllReachPrivate, ReachesPrivate, stays_behind, data_accesses, nine_executed}
+use Rattle.ds_machine.proofs.Words.{is_private_tcm, is_private_to_seven, nine_side, seven_side}
+use Rattle.arm_core.specs.Undefined.{is_undefined}
 use Rattle.arm_core.specs.declared.outcomes.Stepped.{Stepped}
-use Rattle.arm_core.specs.declared.outcomes.Stepped.TheVariants.{Cost}
-use Rattle.arm_exec.proofs.Costs.{some_cost}
-use Rattle.arm7_exec.specs.Arm7.{arm7}
-use Rattle.arm9_exec.specs.Arm9.{arm9}
-use Rattle.arm9_exec.specs.Coprocessors.{MoveOutcome, move_clocks, move_of, moved_if, read_by, register_moved}
-use Rattle.arm9_exec.specs.declared.coprocessors.Moved.{Moved}
-use Rattle.cp15_tcm.specs.Registers.{Cp15State}
-use Rattle.cp15_tcm.specs.TightlyCoupled.{tcm_of}
-use Rattle.cp15_tcm.specs.declared.answers.Tcm.{Tcm}
-use Rattle.cp15_tcm.specs.declared.answers.Tcm.TheVariants.{Itcm, Dtcm, Past}
-use Rattle.ds_map.specs.Views.{NineReach, SevenReach, nine_memory, seven_memory, tcm_fetched, tcm_read, tcm_refusal, tcm_value, tcm_written}
-use Rattle.ds_places.specs.AddressTables.{place_of}
-use Rattle.ds_ports.specs.Io.{IoState}
-use Rattle.ds_map.specs.Maps.{MapState}
-use Rattle.ds_map.specs.Shares.{IsSharedSo, is_private_place}
+use Rattle.arm9_exec.specs.Coprocessors.{move_clocks, read_by}
 use Rattle.ds_map.proofs.NineShares.{IsOwnAddress, IsSharedAlike, NineBytes, nine_fetched_alike, nine_none_refused, nine_put, nine_read_leaves, nine_value_alike, nine_write_leaves, nine_wrote_alike, nine_wrote_at, no_address, private_address, so_shared, stays_alike}
-use Rattle.ds_map.specs.Waits.{nine_wait, seven_wait}
-use Rattle.ds_machine.specs.Private.{AllReachPrivate, ReachesPrivate, stays_behind}
-use Rattle.ds_machine.specs.Sides.{data_accesses, nine_executed}
-use Rattle.ds_machine.specs.PrivateSides.{is_private_tcm, is_private_to_seven, nine_side, seven_side}
 use Rattle.ds_machine.proofs.PrivateAccesses.{AsPrivate, IsApart, StepsAlike}
 use Rattle.ds_machine.proofs.PrivatePlaces.{IsLow, fixed_wait, low_fixed, low_place, map_fetched_alike, map_none_refused, map_read_leaves, map_value_alike, map_write_leaves, private_itself, wram_written, with_wram}
 use Rattle.ds_machine.proofs.PrivateSteps.{ExecutesAlike, both_down, word_alike}
@@ -217,7 +191,7 @@ module _ (shared : List ℕ) (u : IoState) where
       record { own = k; registers = o.registers; clocks = leaves.clocks; some = leaves.some; here = left_by k.own o r leaves; there = left_by k.own o t leaves }
 
   nine_alike : (s : RegisterState) (k : NineShared shared u) (r t : NineReach) (number : ℕ) (instr : Instr) (move : Option Moved) → move_of (Some instr) ≡ move → stays_behind instr ≡ false
-      → AllReachPrivate nine_side (put_nine k.own r) (data_accesses nine_side.arch (nine_side.base (put_nine k.own r)) s (Some instr))
+      → AllReachPrivate nine_side (put_nine k.own r) (data_accesses nine_side.step.arch (nine_side.step.base (put_nine k.own r)) s (Some instr))
       → StepsAlike (put_shared shared u) r t (nine_executed s (put_nine k.own r) number (Some instr) move) (nine_executed s (put_nine k.own t) number (Some instr) move)
   nine_alike s k r t number instr None e ahead h =
       word_alike nine_memory nine_side (put_shared shared u) (shared_wrote shared u) (nine_apart shared u) (arm9 k.own.cp15) s number instr k r t ahead h
@@ -225,7 +199,7 @@ module _ (shared : List ℕ) (u : IoState) where
 
   pub nine_executes : ExecutesAlike nine_side (put_shared shared u)
   nine_executes s k r t number instr ahead h =
-      nine_alike s k r t number instr (move_of (Some instr)) refl (both_down (is_undefined nine_side.arch (Some instr)) (stays_behind instr) ahead).1 h
+      nine_alike s k r t number instr (move_of (Some instr)) refl (both_down (is_undefined nine_side.step.arch (Some instr)) (stays_behind instr) ahead).1 h
 
 -- ---- ARM7's: its work RAM
 
@@ -265,4 +239,4 @@ seven_apart = record {
 
 pub seven_executes : ExecutesAlike seven_side put_seven
 seven_executes s own r t number instr ahead h =
-    word_alike seven_memory seven_side put_seven seven_wrote seven_apart arm7 s number instr own r t (both_down (is_undefined seven_side.arch (Some instr)) (stays_behind instr) ahead).1 h
+    word_alike seven_memory seven_side put_seven seven_wrote seven_apart arm7 s number instr own r t (both_down (is_undefined seven_side.step.arch (Some instr)) (stays_behind instr) ahead).1 h

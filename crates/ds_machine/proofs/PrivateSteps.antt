@@ -1,21 +1,8 @@
-use Rattle.std.specs.Prelude.{not, ◌&&◌}
-use Rattle.std.proofs.Common.{ℕ, ◌≡◌, ◌+◌, Bool, true, false, true≢false, if◌then◌else◌, Option, Some, None, refl, sym, ◌∙◌, ap, subst}
-use Rattle.ds_base.specs.Accesses.{MemoryMachine}
-use Rattle.ds_base.specs.declared.left_out.Stop.{Stop}
-use Rattle.ds_base.specs.declared.memories.Width.{Width}
-use Rattle.ds_base.specs.declared.memories.Width.TheVariants.{Half, Word}
-use Rattle.ds_base.specs.declared.processors.Arch.{Arch}
-use Rattle.arm_words.specs.declared.instructions.Instr.{Instr}
-use Rattle.arm_words.specs.declared.instructions.Instr.TheVariants.{Swi, ThumbSwi}
-use Rattle.arm_core.specs.Conditions.{holds}
-use Rattle.arm_core.specs.Meanings.{condition, meaning}
-use Rattle.arm_core.specs.Registers.{RegisterState, is_thumb}
-use Rattle.arm_core.specs.Steps.{FetchOutcome, Setting, enters, executed_unless, executed_word, fetched, fetched_half, fetched_word, stop_of, swi_stop}
-use Rattle.ds_machine.specs.Private.{AllReachPrivate, StaysPrivate, may_go_ahead, stays_behind}
-use Rattle.ds_machine.specs.Sides.{data_accesses, data_waits, next_fetch, waits_of_step}
-use Rattle.ds_machine.specs.PrivateSides.{SideOf, side_step, side_taken, side_waits}
-use Rattle.ds_base.proofs.Choices.{if_false}
-use Rattle.ds_map.specs.Waits.{waits_of}
+use Rattle.ds_machine.proofs.Words.{not, ◌&&◌, ℕ, ◌≡◌, ◌+◌, Bool, true, false, true≢false, if◌then◌else◌, Option, Some, None, refl, sym, ◌∙◌, ap}
+use Rattle.ds_machine.proofs.Words.{subst, MemoryMachine, Stop, Width, Half, Word, Arch, Instr, Swi, ThumbSwi, holds, condition, meaning}
+use Rattle.ds_machine.proofs.Words.{RegisterState, is_thumb, FetchOutcome, Setting, enters, executed_unless, executed_word, fetched, fetched_half}
+use Rattle.ds_machine.proofs.Words.{fetched_word, stop_of, swi_stop, AllReachPrivate, StaysPrivate, may_go_ahead, stays_behind, data_accesses}
+use Rattle.ds_machine.proofs.Words.{data_waits, next_fetch, waits_of_step, SideOf, side_taken, side_waits, if_false, waits_of}
 use Rattle.ds_machine.proofs.PrivateAccesses.{IsApart, StepsAlike, access_moves, all_move, carried_alike, waits_alike}
 use Rattle.ds_machine.proofs.Taken.{taken_executed}
 
@@ -59,9 +46,9 @@ same_fetch {S} memory arch s x y false e = rw e (record { number = refl; instr =
 
 -- what an instruction comes to that may go ahead
 abbrev pub ExecutesAlike : {S O : Type 0} → SideOf S → (O → S → S) → Type 0
-ExecutesAlike {S} {O} side put = (s : RegisterState) (own : O) (r t : S) (number : ℕ) (instr : Instr) → may_go_ahead side.arch (Some instr) ≡ true
-    → AllReachPrivate side (put own r) (data_accesses side.arch (side.base (put own r)) s (Some instr))
-    → StepsAlike put r t (side.executed s (put own r) number (Some instr)) (side.executed s (put own t) number (Some instr))
+ExecutesAlike {S} {O} side put = (s : RegisterState) (own : O) (r t : S) (number : ℕ) (instr : Instr) → may_go_ahead side.step.arch (Some instr) ≡ true
+    → AllReachPrivate side (put own r) (data_accesses side.step.arch (side.step.base (put own r)) s (Some instr))
+    → StepsAlike put r t (side.step.executed s (put own r) number (Some instr)) (side.step.executed s (put own t) number (Some instr))
 
 module _ {S O : Type 0} (memory : MemoryMachine S) (side : SideOf S) (put : O → S → S) (wrote : O → ℕ → Width → ℕ → O) (apart : IsApart memory side put wrote) where
   unless_alike : (setting : Setting) (s : RegisterState) (instr : Instr) (stop : Option Stop) (own : O) (r t : S) → stop ≡ None
@@ -76,9 +63,9 @@ module _ {S O : Type 0} (memory : MemoryMachine S) (side : SideOf S) (put : O �
   word_alike setting s number instr own r t ahead h = unless_alike setting s instr (stop_of setting s instr) own r t (no_stop setting s instr ahead) h
 
   fetch_alike : (s : RegisterState) (own : O) (r t : S) → StaysPrivate memory side s (put own r)
-      → SameFetch (fetched memory side.arch s (put own r)) (fetched memory side.arch s (put own t))
+      → SameFetch (fetched memory side.step.arch s (put own r)) (fetched memory side.step.arch s (put own t))
   fetch_alike s own r t stays =
-      same_fetch memory side.arch s (put own r) (put own t) (is_thumb s) (apart.fetched own s.pc (if is_thumb s then Half else Word) r t stays.fetch)
+      same_fetch memory side.step.arch s (put own r) (put own t) (is_thumb s) (apart.fetched own s.pc (if is_thumb s then Half else Word) r t stays.fetch)
 
   -- what stays private beside a rest stays so beside each other one
   pub private_alike : (s : RegisterState) (own : O) (r t : S) → StaysPrivate memory side s (put own r) → StaysPrivate memory side s (put own t)
@@ -87,15 +74,15 @@ module _ {S O : Type 0} (memory : MemoryMachine S) (side : SideOf S) (put : O �
       let alike = apart.moves own r t in
       record {
         fetch = access_moves side (put own r) (put own t) alike (next_fetch s) stays.fetch;
-        kind = subst (λ (instr : Option Instr). may_go_ahead side.arch instr ≡ true) same.instr stays.kind;
-        accesses = all_move side (put own r) (put own t) alike (data_accesses side.arch (side.base (put own t)) s (fetched memory side.arch s (put own t)).instr)
-            (subst (λ (instr : Option Instr). AllReachPrivate side (put own r) (data_accesses side.arch (side.base (put own t)) s instr)) same.instr
-            (subst (λ (base : ℕ). AllReachPrivate side (put own r) (data_accesses side.arch base s (fetched memory side.arch s (put own r)).instr)) (apart.base own r t) stays.accesses));
+        kind = subst (λ (instr : Option Instr). may_go_ahead side.step.arch instr ≡ true) same.instr stays.kind;
+        accesses = all_move side (put own r) (put own t) alike (data_accesses side.step.arch (side.step.base (put own t)) s (fetched memory side.step.arch s (put own t)).instr)
+            (subst (λ (instr : Option Instr). AllReachPrivate side (put own r) (data_accesses side.step.arch (side.step.base (put own t)) s instr)) same.instr
+            (subst (λ (base : ℕ). AllReachPrivate side (put own r) (data_accesses side.step.arch base s (fetched memory side.step.arch s (put own r)).instr)) (apart.base own r t) stays.accesses));
       }
 
-  executed_alike : ExecutesAlike side put → (s : RegisterState) (own : O) (r t : S) (number : ℕ) (instr : Option Instr) → may_go_ahead side.arch instr ≡ true
-      → AllReachPrivate side (put own r) (data_accesses side.arch (side.base (put own r)) s instr)
-      → StepsAlike put r t (side.executed s (put own r) number instr) (side.executed s (put own t) number instr)
+  executed_alike : ExecutesAlike side put → (s : RegisterState) (own : O) (r t : S) (number : ℕ) (instr : Option Instr) → may_go_ahead side.step.arch instr ≡ true
+      → AllReachPrivate side (put own r) (data_accesses side.step.arch (side.step.base (put own r)) s instr)
+      → StepsAlike put r t (side.step.executed s (put own r) number instr) (side.step.executed s (put own t) number instr)
   executed_alike executes s own r t number None ahead h = absurd (true≢false (sym ahead))
   executed_alike executes s own r t number (Some instr) ahead h = executes s own r t number instr ahead h
 
@@ -103,7 +90,7 @@ module _ {S O : Type 0} (memory : MemoryMachine S) (side : SideOf S) (put : O �
   pub taken_alike : ExecutesAlike side put → (s : RegisterState) (own : O) (r t : S) (line other : Bool) → enters line s ≡ false → enters other s ≡ false
       → StaysPrivate memory side s (put own r) → StepsAlike put r t (side_taken memory side line s (put own r)) (side_taken memory side other s (put own t))
   taken_alike executes s own r t line other quiet also stays =
-      let f = fetched memory side.arch s (put own r) in
+      let f = fetched memory side.step.arch s (put own r) in
       let same = fetch_alike s own r t stays in
       let o = executed_alike executes s own r t f.number f.instr stays.kind stays.accesses in
       record {
@@ -120,12 +107,12 @@ module _ {S O : Type 0} (memory : MemoryMachine S) (side : SideOf S) (put : O �
       → StaysPrivate memory side s (put own r) → side_waits memory side line s (put own r) ≡ side_waits memory side other s (put own t)
   unfolding waits_of_step
   step_waits_alike s own r t line other quiet also stays =
-      let instr = (fetched memory side.arch s (put own r)).instr in
-      let first = side.wait (put own t) (next_fetch s) in
-      let waited : ℕ → Option Instr → ℕ = λ base i. first + waits_of memory side.wait (put own t) (data_accesses side.arch base s i) in
-      if_false (enters line s) 0 (side.wait (put own r) (next_fetch s) + data_waits memory (side_step side) s (put own r)) quiet
-      ∙ ap (λ (n : ℕ). n + data_waits memory (side_step side) s (put own r)) (apart.waits own (next_fetch s) r t stays.fetch)
-      ∙ ap (λ (n : ℕ). first + n) (waits_alike memory side put wrote apart own r t (data_accesses side.arch (side.base (put own r)) s instr) stays.accesses)
+      let instr = (fetched memory side.step.arch s (put own r)).instr in
+      let first = side.step.wait (put own t) (next_fetch s) in
+      let waited : ℕ → Option Instr → ℕ = λ base i. first + waits_of memory side.step.wait (put own t) (data_accesses side.step.arch base s i) in
+      if_false (enters line s) 0 (side.step.wait (put own r) (next_fetch s) + data_waits memory side.step s (put own r)) quiet
+      ∙ ap (λ (n : ℕ). n + data_waits memory side.step s (put own r)) (apart.waits own (next_fetch s) r t stays.fetch)
+      ∙ ap (λ (n : ℕ). first + n) (waits_alike memory side put wrote apart own r t (data_accesses side.step.arch (side.step.base (put own r)) s instr) stays.accesses)
       ∙ ap (λ (base : ℕ). waited base instr) (apart.base own r t)
-      ∙ ap (waited (side.base (put own t))) (fetch_alike s own r t stays).instr
-      ∙ sym (if_false (enters other s) 0 (side.wait (put own t) (next_fetch s) + data_waits memory (side_step side) s (put own t)) also)
+      ∙ ap (waited (side.step.base (put own t))) (fetch_alike s own r t stays).instr
+      ∙ sym (if_false (enters other s) 0 (side.step.wait (put own t) (next_fetch s) + data_waits memory side.step s (put own t)) also)

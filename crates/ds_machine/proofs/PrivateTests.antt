@@ -1,34 +1,19 @@
-use Rattle.std.proofs.Common.{ℕ, suc, ◌≡◌, ◌<◌, ◌+◌, ◌-◌, ◌%◌, ◌^◌, ◌↔◌, inl, inr, if◌then◌else◌, Bool, true, false, true≢false, not, List, [], ◌∷◌, ◌++◌, length, Option, Some, Contains, refl, sym, ◌∙◌, ap, subst, arith}
-use Rattle.std.specs.Prelude.{◌&&◌, ◌||◌}
-use Rattle.std.specs.List.{list_all}
-use Rattle.std.proofs.lemmas.List.Elements.{All-contains, Contains-append_left, Contains-append_right, Contains-append_cases}
+use Rattle.ds_machine.proofs.Words.{ℕ, suc, ◌≡◌, ◌<◌, ◌+◌, ◌-◌, ◌%◌, ◌^◌, inl, inr, if◌then◌else◌, Bool, true, false, true≢false, List, [], ◌∷◌, ◌++◌}
+use Rattle.ds_machine.proofs.Words.{length, Option, Some, Contains, refl, sym, ◌∙◌, ap, subst, arith, ◌&&◌, ◌||◌, list_all, Contains-append_left}
+use Rattle.ds_machine.proofs.Words.{Contains-append_right, and_parts, Access, Fetch, MemoryMachine, Read, Write, architecture_of, Width, Half, Word}
+use Rattle.ds_machine.proofs.Words.{Arch, V4, V5, Proc, Nine, Seven, decoded_arm, decoded_thumb, Instr, AreOfData, span, meaning, RegisterState}
+use Rattle.ds_machine.proofs.Words.{is_thumb, fetched, fetched_half, fetched_word, Reach, nine_memory, seven_memory, fetch_of, AllReachPrivate}
+use Rattle.ds_machine.proofs.Words.{ProcessorStaysPrivate, ReachesPrivate, StaysPrivate, may_go_ahead, data_accesses, next_fetch, SideOf, nine_side}
+use Rattle.ds_machine.proofs.Words.{seven_side, MachineState, nine_reach, processor_of, seven_reach, tick_of, FetchStaysPrivate, InstrStaysPrivate}
+use Rattle.ds_machine.proofs.Words.{IsFootprint, data_private, instr_at, is_private_to}
+use Rattle.std.proofs.Common.{◌↔◌, not}
+use Rattle.std.proofs.lemmas.List.Elements.{All-contains, Contains-append_cases}
 use Rattle.std.proofs.lemmas.List.Sums.{AllPass-from_list_all}
-use Rattle.std.proofs.lemmas.Bool.{and_from, and_parts}
-use Rattle.ds_base.specs.Accesses.{Access, Fetch, MemoryMachine, Read, Write}
-use Rattle.ds_base.specs.Processors.{architecture_of}
-use Rattle.ds_base.specs.declared.memories.Width.{Width}
-use Rattle.ds_base.specs.declared.memories.Width.TheVariants.{Half, Word}
-use Rattle.ds_base.specs.declared.processors.Arch.{Arch}
-use Rattle.ds_base.specs.declared.processors.Arch.TheVariants.{V4, V5}
-use Rattle.ds_base.specs.declared.processors.Proc.{Proc}
-use Rattle.ds_base.specs.declared.processors.Proc.TheVariants.{Nine, Seven}
-use Rattle.arm_words.specs.ArmTable.{decoded_arm}
-use Rattle.arm_words.specs.ThumbTable.{decoded_thumb}
-use Rattle.arm_words.specs.declared.instructions.Instr.{Instr}
-use Rattle.arm_core.specs.Footprints.{AreAsTold, AreOfData, AreReads, AreWrites, Covers, access_bytes, accessed_bytes, span, touched_bytes}
-use Rattle.arm_core.specs.Meanings.{meaning}
-use Rattle.arm_core.specs.Registers.{RegisterState, is_thumb}
-use Rattle.arm_core.specs.Steps.{fetched, fetched_half, fetched_word}
-use Rattle.arm_core.specs.declared.touches.Reach.{Reach}
+use Rattle.std.proofs.lemmas.Bool.{and_from}
+use Rattle.arm_core.specs.FootprintLaws.{AreAsTold, AreReads, AreWrites, Covers, accessed_bytes, touched_bytes}
+use Rattle.arm_core.specs.Footprints.{access_bytes}
 use Rattle.arm_core.specs.declared.touches.Touch.{Touch}
-use Rattle.ds_map.specs.Views.{nine_memory, seven_memory}
-use Rattle.ds_machine.specs.Inspections.{fetch_of}
-use Rattle.ds_machine.specs.Private.{AllReachPrivate, ProcessorStaysPrivate, ReachesPrivate, StaysPrivate, may_go_ahead}
-use Rattle.ds_machine.specs.Sides.{data_accesses, next_fetch}
-use Rattle.ds_machine.specs.PrivateSides.{SideOf, nine_side, seven_side}
-use Rattle.ds_machine.specs.States.{MachineState}
-use Rattle.ds_machine.specs.Steps.{nine_reach, processor_of, seven_reach, tick_of}
-use Rattle.ds_machine.specs.Touching.{FetchStaysPrivate, InstrReaches, InstrStaysPrivate, IsFootprint, data_private, instr_at, is_private_to}
+use Rattle.ds_machine.specs.Touching.{InstrReaches}
 
 -- What the code tells of private places is so.
 
@@ -179,13 +164,13 @@ module _ {S : Type 0} (side : SideOf S) (state : S) where
       and_from a b (so_where r (list_all p (touched_bytes touch)) (λ e. touch_over p touch accesses covers (reads_by r w accesses suits h e)))
       (so_where w (list_all q (touched_bytes touch)) (λ e. touch_over q touch accesses covers (writes_by r w accesses suits h e)))
 
-  instr_is : (s : RegisterState) (instr : Instr) (reach : Reach) → Covers reach.touch (meaning side.arch (side.base state) s instr).accesses
-      → AreAsTold reach.reads reach.writes (meaning side.arch (side.base state) s instr).accesses
-      → ((may_go_ahead side.arch (Some instr) && tested reach.reads reach.writes reach.touch) ≡ true) ↔ InstrReaches side state s instr
+  instr_is : (s : RegisterState) (instr : Instr) (reach : Reach) → Covers reach.touch (meaning side.step.arch (side.step.base state) s instr).accesses
+      → AreAsTold reach.reads reach.writes (meaning side.step.arch (side.step.base state) s instr).accesses
+      → ((may_go_ahead side.step.arch (Some instr) && tested reach.reads reach.writes reach.touch) ≡ true) ↔ InstrReaches side state s instr
   instr_is s instr reach covers told =
-      let m = meaning side.arch (side.base state) s instr in
+      let m = meaning side.step.arch (side.step.base state) s instr in
       let test = tested reach.reads reach.writes reach.touch in
-      let go = may_go_ahead side.arch (Some instr) in (
+      let go = may_go_ahead side.step.arch (Some instr) in (
         λ h. ((and_parts go test h).0, data_passes reach.reads reach.writes reach.touch m.accesses told covers (and_parts go test h).1),
         λ k. and_from go test k.0 (data_passed reach.reads reach.writes reach.touch m.accesses told covers k.1),
       )
@@ -198,17 +183,17 @@ module _ {S : Type 0} (side : SideOf S) (state : S) where
         λ k. subst (λ (l : List ℕ). list_all p l ≡ true) (sym bytes) (all_of p (access_bytes (Fetch at width)) (subst (ReachesPrivate side state) (sym e) k)),
       )
 
-  stays_if : (memory : MemoryMachine S) (s : RegisterState) (instr : Instr) → Some instr ≡ (fetched memory side.arch s state).instr → ReachesPrivate side state (next_fetch s)
+  stays_if : (memory : MemoryMachine S) (s : RegisterState) (instr : Instr) → Some instr ≡ (fetched memory side.step.arch s state).instr → ReachesPrivate side state (next_fetch s)
       → InstrReaches side state s instr ↔ StaysPrivate memory side s state
   stays_if memory s instr e fetch = (
     λ h. record {
       fetch = fetch;
-      kind = subst (λ (i : Option Instr). may_go_ahead side.arch i ≡ true) e h.0;
-      accesses = subst (λ (i : Option Instr). AllReachPrivate side state (data_accesses side.arch (side.base state) s i)) e h.1;
+      kind = subst (λ (i : Option Instr). may_go_ahead side.step.arch i ≡ true) e h.0;
+      accesses = subst (λ (i : Option Instr). AllReachPrivate side state (data_accesses side.step.arch (side.step.base state) s i)) e h.1;
     },
     λ k. (
-      subst (λ (i : Option Instr). may_go_ahead side.arch i ≡ true) (sym e) k.kind,
-      subst (λ (i : Option Instr). AllReachPrivate side state (data_accesses side.arch (side.base state) s i)) (sym e) k.accesses,
+      subst (λ (i : Option Instr). may_go_ahead side.step.arch i ≡ true) (sym e) k.kind,
+      subst (λ (i : Option Instr). AllReachPrivate side state (data_accesses side.step.arch (side.step.base state) s i)) (sym e) k.accesses,
     ),
   )
 
@@ -218,10 +203,10 @@ pub instr_stays : (s : MachineState) (proc : Proc) (instr : Instr) (reach : Reac
     → ((may_go_ahead (architecture_of proc) (Some instr) && data_private s proc reach) ≡ true) ↔ InstrStaysPrivate s proc instr
 instr_stays s Nine instr reach is =
     let r = nine_reach (tick_of s.nine.processor) s in
-    instr_is nine_side r s.nine.processor.registers instr reach (is.covers (nine_side.base r)) (is.told (nine_side.base r))
+    instr_is nine_side r s.nine.processor.registers instr reach (is.covers (nine_side.step.base r)) (is.told (nine_side.step.base r))
 instr_stays s Seven instr reach is =
     let r = seven_reach (tick_of s.seven.processor) s in
-    instr_is seven_side r s.seven.processor.registers instr reach (is.covers (seven_side.base r)) (is.told (seven_side.base r))
+    instr_is seven_side r s.seven.processor.registers instr reach (is.covers (seven_side.step.base r)) (is.told (seven_side.step.base r))
 
 pub fetch_stays : (s : MachineState) (proc : Proc) (touch : Touch) (at : ℕ) (width : Width) → Fetch at width ≡ next_fetch (processor_of s proc).registers
     → touched_bytes touch ≡ access_bytes (Fetch at width) → (list_all (is_private_to s proc false true) (touched_bytes touch) ≡ true) ↔ FetchStaysPrivate s proc

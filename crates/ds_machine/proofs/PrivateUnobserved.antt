@@ -1,32 +1,10 @@
-use Rattle.std.proofs.Common.{ℕ, ◌≡◌, ◌≤◌, ◌^◌, inl, inr, Bool, true, false, true≢false, List, [], ◌∷◌, Contains, refl, sym, ap}
-use Rattle.std.specs.Prelude.{not}
-use Rattle.std.proofs.lemmas.Bool.{and_right, or_from}
-use Rattle.ds_base.proofs.Choices.{low_or_high}
-use Rattle.ds_base.specs.Accesses.{Access, Fetch, Read, Write}
-use Rattle.ds_base.specs.Numbers.{aligned_down, width_bytes}
-use Rattle.ds_base.specs.declared.memories.Width.{Width}
-use Rattle.ds_base.specs.declared.processors.Proc.{Proc}
-use Rattle.ds_base.specs.declared.processors.Proc.TheVariants.{Nine, Seven}
-use Rattle.arm_core.specs.Footprints.{span}
-use Rattle.arm_core.specs.Steps.{enters, fetched}
-use Rattle.cp15_tcm.specs.TightlyCoupled.{tcm_of}
-use Rattle.cp15_tcm.specs.declared.answers.Tcm.{Tcm}
-use Rattle.cp15_tcm.specs.declared.answers.Tcm.TheVariants.{Itcm, Dtcm, Past}
-use Rattle.ds_map.specs.Maps.{MapState}
-use Rattle.ds_map.specs.Shares.{is_private_place}
-use Rattle.ds_map.specs.Views.{NineReach, nine_memory}
+use Rattle.ds_machine.proofs.Words.{ℕ, ◌≡◌, ◌≤◌, ◌^◌, inl, inr, Bool, true, false, true≢false, List, [], ◌∷◌, Contains, refl, sym, ap, not, and_right}
+use Rattle.ds_machine.proofs.Words.{or_from, low_or_high, Access, Fetch, Read, Write, aligned_down, width_bytes, Width, Proc, Nine, Seven, span}
+use Rattle.ds_machine.proofs.Words.{enters, fetched, tcm_of, Tcm, Itcm, Dtcm, Past, MapState, is_private_place, NineReach, nine_memory, place_of}
+use Rattle.ds_machine.proofs.Words.{Place, Cell, Banks, Port, Rom, Nothing, actor_of, Processor, access_observes, any_observes, is_observed_past}
+use Rattle.ds_machine.proofs.Words.{is_observed_place, observes_by, AllReachPrivate, IsPrivate, ReachesPrivate, rank_of, data_accesses}
+use Rattle.ds_machine.proofs.Words.{is_private_tcm, nine_side, MachineState, line_of, nine_reach, tick_of}
 use Rattle.ds_map.proofs.NineShares.{no_place}
-use Rattle.ds_places.specs.AddressTables.{place_of}
-use Rattle.ds_places.specs.declared.kinds.Place.{Place}
-use Rattle.ds_places.specs.declared.kinds.Place.TheVariants.{Cell, Banks, Port, Rom, Nothing}
-use Rattle.ds_runs.specs.Actors.{actor_of}
-use Rattle.ds_runs.specs.declared.actors.Actor.TheVariants.{Processor}
-use Rattle.ds_machine.specs.Lagging.{access_observes, any_observes, is_observed_past, is_observed_place, observes_by}
-use Rattle.ds_machine.specs.Private.{AllReachPrivate, IsPrivate, ReachesPrivate, rank_of}
-use Rattle.ds_machine.specs.Sides.{data_accesses}
-use Rattle.ds_machine.specs.PrivateSides.{is_private_tcm, nine_side}
-use Rattle.ds_machine.specs.States.{MachineState}
-use Rattle.ds_machine.specs.Steps.{line_of, nine_reach, tick_of}
 use Rattle.ds_machine.proofs.PrivatePlaces.{private_itself}
 
 -- A private step doesn't observe geometry: private places are no ports.
@@ -78,7 +56,7 @@ pub private_unobserved : (s : MachineState) (proc : Proc) → IsPrivate s proc �
 private_unobserved s Nine is =
     let r = nine_reach (tick_of s.nine.processor) s in
     let registers = s.nine.processor.registers in
-    let accesses = data_accesses nine_side.arch (nine_side.base r) registers (fetched nine_memory nine_side.arch registers r).instr in
+    let accesses = data_accesses nine_side.step.arch (nine_side.step.base r) registers (fetched nine_memory nine_side.step.arch registers r).instr in
     and_right (not (enters (line_of s Nine) registers)) (any_observes r accesses) (all_unseen r accesses is.own.accesses)
 private_unobserved s Seven is = refl
 

@@ -1,25 +1,11 @@
-use Rattle.std.proofs.Common.{ℕ, ◌≡◌, ◌<◌, ◌≤◌, ◌+◌, ◌^◌, inl, inr, Bool, true, false, true≢false, List, [], ◌∷◌, Some, refl, sym, ◌∙◌, ap, subst, arith}
-use Rattle.ds_base.specs.KeyLines.{AreKeyLines}
-use Rattle.ds_base.specs.Schedules.{IsLater, Reschedules}
-use Rattle.ds_base.specs.declared.left_out.LeftOut.{LeftOut}
-use Rattle.ds_base.specs.declared.processors.Proc.{Proc}
-use Rattle.ds_base.specs.declared.processors.Proc.TheVariants.{Nine, Seven}
-use Rattle.ds_base.specs.declared.ticks.Tick.{Tick}
+use Rattle.ds_machine.proofs.Words.{ℕ, ◌≡◌, ◌<◌, ◌≤◌, ◌+◌, ◌^◌, inl, inr, Bool, true, false, true≢false, List, [], ◌∷◌, Some, refl, sym, ◌∙◌, ap}
+use Rattle.ds_machine.proofs.Words.{subst, arith, AreKeyLines, IsLater, Reschedules, LeftOut, Proc, Nine, Seven, Tick, Cost, Halted, Left, CostsSome}
+use Rattle.ds_machine.proofs.Words.{other_proc, IsIo, Goes, IsProcessorIo, HasOnlyLaterEvents, ReschedulesEach, io_of, all_io_dues, goes_io, of_both}
+use Rattle.ds_machine.proofs.Words.{processor_io_is, MachineStep, Makes, Stops, Processor, same_makes, same_stops, not_both, Shown, awake, due_unless}
+use Rattle.ds_machine.proofs.Words.{processor_due, shown_at, step_by, HasSoundParts, stepped_of, MachineState, ProcessorState, counts_of}
+use Rattle.ds_machine.proofs.Words.{machine_concluded, gone_by, is_halted, is_blocked, outcome_of, processor_of, tick_of, went_on, with_halt, ended}
+use Rattle.ds_machine.proofs.Words.{scan_due}
 use Rattle.arm_core.specs.declared.outcomes.Stepped as arm
-use Rattle.arm_core.specs.declared.outcomes.Stepped.TheVariants.{Cost, Halted, Left}
-use Rattle.arm_exec.specs.Costs.{CostsSome}
-use Rattle.ds_ipc.specs.Ipcs.{other_proc}
-use Rattle.ds_ports.specs.Happenings.{IsIo, Goes, IsProcessorIo, HasOnlyLaterEvents, ReschedulesEach}
-use Rattle.ds_ports.specs.Io.{io_of}
-use Rattle.ds_ports.proofs.Later.{all_io_dues, goes_io, of_both, processor_io_is}
-use Rattle.ds_runs.specs.Runs.{MachineStep, Makes, Stops}
-use Rattle.ds_runs.specs.declared.actors.Actor.TheVariants.{Processor}
-use Rattle.ds_runs.proofs.RunLaws.{same_makes, same_stops, not_both}
-use Rattle.ds_machine.specs.Reference.{Shown, awake, due_unless, processor_due, shown_at, step_by}
-use Rattle.ds_machine.specs.Sound.{HasSoundParts}
-use Rattle.ds_machine.specs.StepAnswers.{stepped_of}
-use Rattle.ds_machine.specs.States.{MachineState, ProcessorState, counts_of}
-use Rattle.ds_machine.specs.Steps.{machine_concluded, gone_by, is_halted, is_blocked, outcome_of, processor_of, tick_of, went_on, with_halt, ended}
 use Rattle.ds_machine.specs.declared.answers.Done as answer
 use Rattle.ds_machine.specs.declared.answers.Done.TheVariants as answers
 use Rattle.ds_machine.proofs.Costs.{step_costs}
@@ -28,7 +14,6 @@ use Rattle.ds_machine.proofs.Moves.{Moves, blocked_moves, moves_of, other_held, 
 use Rattle.ds_machine.proofs.Others.{step_goes}
 use Rattle.ds_machine.proofs.Rooms.{reached_within}
 use Rattle.ds_machine.proofs.Wakes.{halt_blocked, halt_other, halt_steps, halted_blocks, halted_io_dues, halted_io, put_beside, put_counts, put_other, put_processor_io}
-use Rattle.video2d.specs.Scans.{scan_due}
 
 -- A processor's step: what its accesses leave, and how it goes on.
 

@@ -1,27 +1,10 @@
-use Rattle.std.proofs.Common.{ℕ, zero, suc, ◌≡◌, ◌<◌, ◌≤◌, inl, inr, Bool, true, false, true≢false, List, Option, Some, None, refl, sym, ◌∙◌, ap, subst, arith}
-use Rattle.std.specs.Prelude.{is_some}
-use Rattle.std.proofs.lemmas.Bool.{or_parts}
-use Rattle.ds_base.specs.Schedules.{IsLater}
-use Rattle.ds_base.specs.declared.processors.Proc.{Proc}
-use Rattle.ds_base.specs.declared.processors.Proc.TheVariants.{Nine, Seven}
-use Rattle.ds_base.specs.declared.ticks.Tick.{Tick}
-use Rattle.ds_dma.specs.Channels.{ready_by}
-use Rattle.ds_dma.specs.declared.channels.LastUnit.{LastUnit}
-use Rattle.ds_dma.specs.States.{DmaState, AreReadyLater, any_runs, channel_at}
-use Rattle.ds_ports.specs.Dues.{io_due}
-use Rattle.ds_ports.specs.Happenings.{HasOnlyLaterEvents}
-use Rattle.ds_ports.specs.ProcessorIo.{ProcessorIoState, blocks_processor}
-use Rattle.ds_ports.specs.Io.{io_of}
-use Rattle.ds_runs.specs.Actors.{actor_of}
-use Rattle.ds_runs.specs.Runs.{IsLeast, due_at}
+use Rattle.ds_machine.proofs.Words.{ℕ, zero, suc, ◌≡◌, ◌<◌, ◌≤◌, inl, inr, Bool, true, false, true≢false, List, Option, Some, None, refl, sym, ◌∙◌}
+use Rattle.ds_machine.proofs.Words.{ap, subst, arith, is_some, or_parts, IsLater, Proc, Nine, Seven, Tick, ready_by, LastUnit, DmaState, any_runs}
+use Rattle.ds_machine.proofs.Words.{channel_at, io_due, HasOnlyLaterEvents, ProcessorIoState, blocks_processor, io_of, actor_of, IsLeast, due_at}
+use Rattle.ds_machine.proofs.Words.{KeyScript, Video, Timer, Divider, SquareRoot, Geometry, Card, Dma, Processor, acting_dues, IsAhead, IsBelowFence}
+use Rattle.ds_machine.proofs.Words.{rank_of, Fences, due_by, dues_of, processor_due, MachineState, is_blocked, is_halted, processor_of, tick_of}
+use Rattle.ds_dma.specs.States.{AreReadyLater}
 use Rattle.ds_runs.specs.declared.actors.Actor as actor
-use Rattle.ds_runs.specs.declared.actors.Actor.TheVariants.{KeyScript, Video, Timer, Divider, SquareRoot, Geometry, Card, Dma, Processor}
-use Rattle.ds_machine.specs.Acting.{acting_dues}
-use Rattle.ds_machine.specs.Private.{IsAhead, IsBelowFence, rank_of}
-use Rattle.ds_machine.specs.Hearing.{Fences}
-use Rattle.ds_machine.specs.Reference.{due_by, dues_of, processor_due}
-use Rattle.ds_machine.specs.States.{MachineState}
-use Rattle.ds_machine.specs.Steps.{is_blocked, is_halted, processor_of, tick_of}
 use Rattle.ds_machine.proofs.ActingDues.{acting_processor, other_acts}
 use Rattle.ds_machine.proofs.DueTicks.{due_of_rank, due_then}
 use Rattle.ds_machine.proofs.Moves.{later_if}

@@ -1,20 +1,7 @@
-use Rattle.std.specs.Prelude.{is_some}
-use Rattle.std.proofs.Common.{ℕ, ◌≡◌, ◌≢◌, true, false, List, sym, ◌∙◌, ap, subst}
-use Rattle.std.proofs.lemmas.Option.{none-some}
-use Rattle.ds_base.specs.declared.ticks.Tick.{Tick}
-use Rattle.ds_ports.specs.Acting.{any_armed, is_quiet}
-use Rattle.ds_ports.specs.Io.{IoState}
-use Rattle.ds_runs.specs.Actors.{actor_of}
-use Rattle.ds_runs.specs.Runs.{Makes}
+use Rattle.ds_machine.proofs.Words.{is_some, ℕ, ◌≡◌, ◌≢◌, true, false, List, sym, ◌∙◌, ap, subst, none-some, Tick, any_armed, is_quiet, IoState}
+use Rattle.ds_machine.proofs.Words.{actor_of, Makes, Geometry, GxState, is_stalled, acting_due, ActsUnobserving, Shown, reference_step, HasSoundParts}
+use Rattle.ds_machine.proofs.Words.{MachineState, ended}
 use Rattle.ds_runs.specs.declared.actors.Actor as actor
-use Rattle.ds_runs.specs.declared.actors.Actor.TheVariants.{Geometry}
-use Rattle.gx_fifo.specs.GxStates.{GxState, is_stalled}
-use Rattle.ds_machine.specs.Acting.{acting_due}
-use Rattle.ds_machine.specs.Lagging.{ActsUnobserving}
-use Rattle.ds_machine.specs.Reference.{Shown, reference_step}
-use Rattle.ds_machine.specs.Sound.{HasSoundParts}
-use Rattle.ds_machine.specs.States.{MachineState}
-use Rattle.ds_machine.specs.Steps.{ended}
 use Rattle.ds_machine.proofs.ActingDues.{acting_low, acting_of_rank}
 use Rattle.ds_machine.proofs.LagCommutes.{arms_left, ended_disarmed, ended_gx_left, gx_left}
 use Rattle.ds_machine.proofs.LagSteps.{quiet_acts_never, quiet_parts, quiet_where_due}

@@ -1,24 +1,11 @@
-use Rattle.std.proofs.Common.{ℕ, ◌≡◌, ◌<◌, ◌≤◌, ◌-◌, ◌==◌, Bool, true, false, true≢false, if◌then◌else◌, None, inl, inr, refl, sym, arith}
-use Rattle.ds_base.proofs.Choices.{low_or_high}
-use Rattle.ds_base.specs.Memories.{memory_size}
-use Rattle.ds_base.specs.declared.memories.Memory.TheVariants.{Shared, Own7}
-use Rattle.ds_base.specs.declared.memories.Width.{Width}
-use Rattle.ds_base.specs.declared.processors.Proc.{Proc}
-use Rattle.ds_base.specs.declared.processors.Proc.TheVariants.{Nine, Seven}
-use Rattle.ds_base.specs.declared.ticks.Tick.{Tick}
-use Rattle.arm_ops.specs.Meanings.{RefusesNoneInRam, is_ram}
-use Rattle.cp15_tcm.specs.TightlyCoupled.{tcm_of}
-use Rattle.cp15_tcm.specs.declared.answers.Tcm.{Tcm}
+use Rattle.ds_machine.proofs.Words.{ℕ, ◌≡◌, ◌<◌, ◌≤◌, ◌-◌, ◌==◌, Bool, true, false, true≢false, if◌then◌else◌, None, inl, inr, refl, sym, arith}
+use Rattle.ds_machine.proofs.Words.{low_or_high, memory_size, Shared, Own7, Width, Proc, Nine, Seven, Tick, RefusesNoneInRam, is_ram, tcm_of, Tcm}
+use Rattle.ds_machine.proofs.Words.{Cells, Empty, place_at, place_of, shared_for_nine, Place, Cell, Banks, Port, Rom, Nothing, in_row, past_row}
+use Rattle.ds_machine.proofs.Words.{after_read_at, map_read, map_refusal, map_written, written_at, refusal_at, is_guarded, MapState, NineReach}
+use Rattle.ds_machine.proofs.Words.{nine_memory, seven_memory, tcm_refusal, tcm_written, IoState}
 use Rattle.cp15_tcm.specs.declared.answers.Tcm.TheVariants as tcm
-use Rattle.ds_places.specs.AddressTables.{Cells, Empty, is_of_region, main_region, own_region, place_at, place_of, shared_for_nine, shared_for_seven}
-use Rattle.ds_places.specs.declared.kinds.Place.{Place}
-use Rattle.ds_places.specs.declared.kinds.Place.TheVariants.{Cell, Banks, Port, Rom, Nothing}
-use Rattle.ds_places.proofs.Rows.{in_row, past_row}
-use Rattle.ds_map.specs.Accesses.{after_read_at, map_read, map_refusal, map_written, written_at, refusal_at}
-use Rattle.ds_map.specs.Guards.{is_guarded, meets_guard}
-use Rattle.ds_map.specs.Maps.{MapState}
-use Rattle.ds_map.specs.Views.{NineReach, nine_memory, seven_memory, tcm_refusal, tcm_written}
-use Rattle.ds_ports.specs.Io.{IoState}
+use Rattle.ds_places.specs.AddressTables.{is_of_region, main_region, own_region, shared_for_seven}
+use Rattle.ds_map.specs.Guards.{meets_guard}
 
 -- RAM, 2000000h to 3FFFFFFh, are cells for both processors, or nothing is there: no access of them changes a unit.
 

@@ -1,12 +1,5 @@
-use Rattle.std.proofs.Common.{ℕ, ◌≡◌, ◌<◌, inl, inr, arith}
-use Rattle.ds_base.proofs.Choices.{same_or_not}
-use Rattle.ds_base.specs.declared.processors.Proc.{Proc}
-use Rattle.ds_base.specs.declared.processors.Proc.TheVariants.{Nine, Seven}
-use Rattle.ds_runs.specs.Actors.{actor_of}
-use Rattle.ds_runs.specs.declared.actors.Actor.TheVariants.{Geometry, Processor}
-use Rattle.ds_runs.proofs.AllActors.{actors_differ}
-use Rattle.ds_machine.specs.Hearing.{geometry_rank}
-use Rattle.ds_machine.specs.Private.{rank_of}
+use Rattle.ds_machine.proofs.Words.{ℕ, ◌≡◌, ◌<◌, inl, inr, arith, same_or_not, Proc, Nine, Seven, actor_of, Geometry, Processor, actors_differ}
+use Rattle.ds_machine.proofs.Words.{geometry_rank, rank_of}
 
 -- An actor has one rank.
 

@@ -1,16 +1,8 @@
-use Rattle.std.proofs.Common.{ℕ, Bool, ◌≡◌, List, [], ◌∷◌, ◌++◌, length, refl, sym, ◌∙◌, ap, arith}
+use Rattle.ds_machine.proofs.Words.{ℕ, Bool, ◌≡◌, List, [], ◌∷◌, ◌++◌, length, refl, sym, ◌∙◌, ap, arith, Outcome, RegisterState, Proc, Nine, Seven}
+use Rattle.ds_machine.proofs.Words.{Tick, MapState, map_seen, unreached, SevenReach, seven_memory, IoState, seven_side, side_taken, MachineState}
+use Rattle.ds_machine.proofs.Words.{ProcessorState, line_of, map_of, outcome_of, seven_reach, with_map, with_seven}
 use Rattle.std.proofs.lemmas.List.{append-nil}
-use Rattle.arm_core.specs.Effects.{Outcome}
-use Rattle.arm_core.specs.Registers.{RegisterState}
-use Rattle.ds_base.specs.declared.processors.Proc.{Proc}
-use Rattle.ds_base.specs.declared.processors.Proc.TheVariants.{Nine, Seven}
-use Rattle.ds_base.specs.declared.ticks.Tick.{Tick}
-use Rattle.ds_map.specs.Maps.{MapState, MemoriesState, map_seen, unreached}
-use Rattle.ds_map.specs.Views.{SevenReach, seven_memory}
-use Rattle.ds_ports.specs.Io.{IoState}
-use Rattle.ds_machine.specs.PrivateSides.{seven_side, side_taken}
-use Rattle.ds_machine.specs.States.{MachineState, ProcessorState}
-use Rattle.ds_machine.specs.Steps.{line_of, map_of, outcome_of, seven_reach, with_map, with_seven}
+use Rattle.ds_map.specs.Maps.{MemoriesState}
 
 -- The code has all memories in one place, and hands them with the units to each processor: what it left of those that it reaches is what its map has, and
 -- the others are as they were.

@@ -1,33 +1,17 @@
-use Rattle.std.proofs.Common.{ℕ, ◌≡◌, ◌≤◌, ◌+◌, ◌/◌, ◌^◌, Option, Some, None, refl, sym, ◌∙◌, subst, arith}
-use Rattle.std.specs.Prelude.{◌&&◌}
-use Rattle.ds_base.proofs.Choices.{either}
-use Rattle.ds_base.specs.Numbers.{aligned_down}
-use Rattle.ds_base.specs.declared.left_out.Stop.{Stop}
-use Rattle.ds_base.specs.declared.memories.Memory.TheVariants.{Vram}
-use Rattle.ds_base.specs.declared.memories.Width.{Width}
-use Rattle.ds_base.specs.declared.memories.Width.TheVariants.{Byte, Half, Word}
-use Rattle.ds_base.specs.declared.processors.Proc.{Proc}
-use Rattle.ds_base.specs.declared.processors.Proc.TheVariants.{Nine, Seven}
-use Rattle.ds_base.specs.declared.ticks.Tick.{Tick}
-use Rattle.ds_places.specs.AddressTables.{place_of}
-use Rattle.ds_places.specs.declared.kinds.Place.{Place}
+use Rattle.ds_machine.proofs.Words.{ℕ, ◌≡◌, ◌≤◌, ◌+◌, ◌/◌, ◌^◌, Option, Some, None, refl, sym, ◌∙◌, subst, arith, ◌&&◌, either, aligned_down, Stop}
+use Rattle.ds_machine.proofs.Words.{Vram, Width, Byte, Half, Word, Proc, Nine, Seven, Tick, place_of, Place, IoState, ignores, port_refusal}
+use Rattle.ds_machine.proofs.Words.{port_written, slot_joined, unless_stopped, whole_in, ProcessorIoState, slot_of, after_write, Register, Dmacnt}
+use Rattle.ds_machine.proofs.Words.{Haltcnt, Slot, AreWaiting, GxState, waiting_entries, vram_written, is_byte_of_nine, map_written, takes_no_bytes}
+use Rattle.ds_machine.proofs.Words.{written_at, MapState}
 use Rattle.ds_places.specs.declared.kinds.Place.TheVariants as place
-use Rattle.ds_ports.specs.Io.{IoState, with_io_of}
-use Rattle.ds_ports.specs.Ports.{byte_written, half_written, ignores, port_refusal, port_written, slot_joined, slot_written, unless_stopped, whole_in, word_written, written_or}
-use Rattle.ds_ports.specs.ProcessorIo.{ProcessorIoState}
-use Rattle.ds_ports.specs.RegisterMap.{slot_of}
-use Rattle.ds_ports.specs.Registers.{after_write, gx_set}
-use Rattle.ds_ports.specs.declared.registers.Register.{Register}
-use Rattle.ds_ports.specs.declared.registers.Register.TheVariants.{GxWord, GxCommand, Dmasad, Dmadad, Dmacnt, TmcntL, TmcntH, Keycnt, Ime, Ie, If, Haltcnt}
-use Rattle.ds_ports.specs.declared.registers.Slot.{Slot}
+use Rattle.ds_ports.specs.Io.{with_io_of}
+use Rattle.ds_ports.specs.Ports.{byte_written, half_written, slot_written, word_written, written_or}
+use Rattle.ds_ports.specs.Registers.{gx_set}
+use Rattle.ds_ports.specs.declared.registers.Register.TheVariants.{GxWord, GxCommand, Dmasad, Dmadad, TmcntL, TmcntH, Keycnt, Ime, Ie, If}
 use Rattle.ds_ports.proofs.Grows.{write_grows}
 use Rattle.ds_ports.proofs.GxPorts.{written_longer}
 use Rattle.gx_fifo.specs.Entries.{most_entries}
-use Rattle.gx_fifo.specs.GxStates.{AreWaiting, GxState, waiting_entries}
 use Rattle.gx_fifo.proofs.Laws.{written_waiting}
-use Rattle.vram_banks.specs.Cells.{vram_written}
-use Rattle.ds_map.specs.Accesses.{is_byte_of_nine, map_written, takes_no_bytes, written_at}
-use Rattle.ds_map.specs.Maps.{MapState}
 
 -- What a write makes of geometry.
 

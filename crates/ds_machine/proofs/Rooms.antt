@@ -1,55 +1,22 @@
-use Rattle.std.proofs.Common.{ℕ, ◌≡◌, ◌≤◌, ◌+◌, ◌*◌, nat_lt, if◌then◌else◌, Bool, true, false, List, [], ◌∷◌, length, Option, Some, None, refl, sym, ◌∙◌, ap, subst, arith}
-use Rattle.std.proofs.lemmas.Option.{none-some}
-use Rattle.std.proofs.lemmas.Bool.{or_parts}
-use Rattle.ds_base.specs.Accesses.{Access, Fetch, Performed, Read, Write, perform, refused_or}
-use Rattle.ds_base.specs.declared.left_out.Stop.{Stop}
-use Rattle.ds_base.specs.declared.memories.Width.{Width}
-use Rattle.ds_base.specs.declared.processors.Arch.{Arch}
-use Rattle.ds_base.specs.declared.processors.Arch.TheVariants.{V5}
-use Rattle.ds_base.specs.declared.processors.Proc.{Proc}
-use Rattle.ds_base.specs.declared.processors.Proc.TheVariants.{Nine, Seven}
-use Rattle.ds_base.specs.declared.ticks.Tick.{Tick}
-use Rattle.arm_words.specs.declared.instructions.Instr.{Instr}
-use Rattle.arm_core.specs.Exceptions.{interrupt_meaning}
-use Rattle.arm_core.specs.Meanings.{meaning}
-use Rattle.arm_core.specs.Registers.{RegisterState}
-use Rattle.arm_core.specs.Steps.{Setting, enters, executed_word, fetched}
+use Rattle.ds_machine.proofs.Words.{ℕ, ◌≡◌, ◌≤◌, ◌+◌, ◌*◌, nat_lt, if◌then◌else◌, Bool, true, false, List, [], ◌∷◌, length, Option, Some, None, refl}
+use Rattle.ds_machine.proofs.Words.{sym, ◌∙◌, ap, subst, arith, none-some, or_parts, Access, Fetch, Performed, Read, Write, perform, refused_or, Stop}
+use Rattle.ds_machine.proofs.Words.{Width, Arch, V5, Proc, Nine, Seven, Tick, Instr, interrupt_meaning, meaning, RegisterState, Setting, enters}
+use Rattle.ds_machine.proofs.Words.{executed_word, fetched, Cost, Halted, Left, arm7, arm9, move_of, Moved, Cp15State, tcm_of, Tcm, Itcm, Dtcm, Past}
+use Rattle.ds_machine.proofs.Words.{LeftOut, channel_due, map_value, MapState, map_after_unit, next_unit, unit_moved, unit_read, unit_refusal}
+use Rattle.ds_machine.proofs.Words.{unit_taken, NineReach, SevenReach, nine_memory, seven_memory, tcm_read, tcm_written, map_read_leaves, held_due}
+use Rattle.ds_machine.proofs.Words.{io_due, IoState, level_told, settled, blocks_processor, processor_io_triggered, actor_of, MachineStep, Makes}
+use Rattle.ds_machine.proofs.Words.{Stops, Dma, Processor, AreWaiting, GxState, is_half_empty, is_stalled, waiting_entries, channel_step, moved_by}
+use Rattle.ds_machine.proofs.Words.{Shown, awake, due_by, processor_due, reference_step, step_by, FindsRoom, accesses_of, step_accesses, nine_side}
+use Rattle.ds_machine.proofs.Words.{seven_side, side_taken, nine_executed, MachineState, left_by, ended, goes_on, is_blocked, line_of}
+use Rattle.ds_machine.proofs.Words.{machine_concluded, machine_settled, map_of, nine_reach, outcome_of, processor_of, processor_step, seven_reach}
+use Rattle.ds_machine.proofs.Words.{tick_of, wakes, with_map, woken_one}
 use Rattle.arm_core.specs.declared.outcomes.Stepped as arm
-use Rattle.arm_core.specs.declared.outcomes.Stepped.TheVariants.{Cost, Halted, Left}
-use Rattle.arm7_exec.specs.Arm7.{arm7}
-use Rattle.arm9_exec.specs.Arm9.{arm9}
-use Rattle.arm9_exec.specs.Coprocessors.{move_of}
-use Rattle.arm9_exec.specs.declared.coprocessors.Moved.{Moved}
-use Rattle.cp15_tcm.specs.Registers.{Cp15State}
-use Rattle.cp15_tcm.specs.TightlyCoupled.{tcm_of}
-use Rattle.cp15_tcm.specs.declared.answers.Tcm.{Tcm}
-use Rattle.cp15_tcm.specs.declared.answers.Tcm.TheVariants.{Itcm, Dtcm, Past}
-use Rattle.ds_base.specs.declared.left_out.LeftOut.{LeftOut}
-use Rattle.ds_dma.specs.States.{channel_due}
 use Rattle.ds_dma.specs.declared.controls.Cause.TheVariants as causes
 use Rattle.ds_dma.specs.declared.channels.Unit.{Unit as DmaUnit}
-use Rattle.ds_map.specs.Accesses.{map_value}
-use Rattle.ds_map.specs.Maps.{MapState}
-use Rattle.ds_map.specs.Moves.{map_after_unit, next_unit, unit_moved, unit_read, unit_refusal, unit_taken}
-use Rattle.ds_map.specs.Views.{NineReach, SevenReach, nine_memory, seven_memory, tcm_read, tcm_written}
 use Rattle.ds_map.proofs.Guards.{read_leaves, taken_leaves}
-use Rattle.ds_map.proofs.Later.{map_read_leaves}
-use Rattle.ds_ports.specs.Dues.{held_due, io_due}
-use Rattle.ds_ports.specs.Io.{IoState, level_told, settled}
-use Rattle.ds_ports.specs.ProcessorIo.{blocks_processor, processor_io_triggered}
-use Rattle.ds_runs.specs.Actors.{actor_of}
-use Rattle.ds_runs.specs.Runs.{MachineStep, Makes, Stops}
 use Rattle.ds_runs.specs.declared.actors.Actor as actor
-use Rattle.ds_runs.specs.declared.actors.Actor.TheVariants.{Dma, Processor}
-use Rattle.gx_fifo.specs.GxStates.{AreWaiting, GxState, is_half_empty, is_stalled, waiting_entries}
-use Rattle.ds_machine.specs.Channels.{channel_step, moved_by}
-use Rattle.ds_machine.specs.Reference.{Shown, awake, due_by, processor_due, reference_step, step_by}
-use Rattle.ds_machine.specs.Rooms.{FindsRoom, InstructionsFindRoom, NineStepsFindRoom, NineUnitsFindRoom, SevenStepsLeaveGeometry, SevenUnitsLeaveGeometry, StepFindsRoom, StepsFindRoom, UnitFindsRoom, accesses_of, step_accesses}
-use Rattle.ds_machine.specs.PrivateSides.{nine_side, seven_side, side_taken}
-use Rattle.ds_machine.specs.Sides.{nine_executed}
-use Rattle.ds_machine.specs.States.{MachineState}
-use Rattle.ds_machine.specs.Statuses.{left_by}
-use Rattle.ds_machine.specs.Steps.{StepOutcome, ended, goes_on, is_blocked, line_of, machine_concluded, machine_settled, map_of, nine_reach, outcome_of, processor_of, processor_step, seven_reach, tick_of, wakes, with_map, woken_one}
+use Rattle.ds_machine.specs.Rooms.{InstructionsFindRoom, NineStepsFindRoom, NineUnitsFindRoom, SevenStepsLeaveGeometry, SevenUnitsLeaveGeometry, StepFindsRoom, StepsFindRoom, UnitFindsRoom}
+use Rattle.ds_machine.specs.Steps.{StepOutcome}
 use Rattle.ds_machine.proofs.FewAccesses.{instructions_are_short}
 use Rattle.ds_machine.proofs.MadeAccesses.{carried_state, move_silent, word_made}
 use Rattle.ds_machine.proofs.Keeps.{Follows, taken_follows, word_follows}
@@ -172,7 +139,7 @@ pub steps_find_room : StepsFindRoom
 steps_find_room line s r w free =
     let accesses : List Access = step_accesses nine_memory nine_side line s r in
     let f = fetched nine_memory V5 s r in
-    let few : length accesses ≤ 16 = either_few (enters line s) _ (executed_few V5 (nine_side.base r) s f.instr) in
+    let few : length accesses ≤ 16 = either_few (enters line s) _ (executed_few V5 (nine_side.step.base r) s f.instr) in
     let room : HaveRoom accesses r = few_have_room accesses r few w free in
     let made = step_made s r line in
     record { accesses = room.0; after = subst (λ (n : ℕ). n ≤ 324) (sym (ap waiting made)) room.1; made = made }

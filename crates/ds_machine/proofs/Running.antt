@@ -1,31 +1,17 @@
-use Rattle.std.proofs.Common.{ℕ, ◌≡◌, ◌≢◌, ◌<◌, ◌≤◌, ◌+◌, ◌*◌, ◌^◌, ◌⊎◌, inl, inr, List, ◌∷◌, Option, Some, None, refl, sym, ◌∙◌, ap, subst, arith, []}
-use Rattle.ds_base.proofs.Choices.{same_or_not}
-use Rattle.ds_base.specs.Schedules.{IsLater}
-use Rattle.ds_base.specs.declared.left_out.LeftOut.{LeftOut}
-use Rattle.ds_base.specs.declared.processors.Proc.{Proc}
-use Rattle.ds_base.specs.declared.processors.Proc.TheVariants.{Nine, Seven}
-use Rattle.ds_base.specs.declared.ticks.Tick.{Tick}
-use Rattle.ds_runs.specs.Actors.{actor_of}
-use Rattle.ds_runs.specs.Ahead.{MovesOn}
-use Rattle.ds_runs.specs.Lasts.{LeadsTo, here, step}
-use Rattle.ds_runs.specs.Runs.{Ending, IsLeast, IsOver, Makes, Runs, due_at, over, stops, more}
+use Rattle.ds_machine.proofs.Words.{ℕ, ◌≡◌, ◌≢◌, ◌<◌, ◌≤◌, ◌+◌, ◌*◌, ◌^◌, ◌⊎◌, inl, inr, List, ◌∷◌, Option, Some, None, refl, sym, ◌∙◌, ap, subst}
+use Rattle.ds_machine.proofs.Words.{arith, [], same_or_not, IsLater, LeftOut, Proc, Nine, Seven, Tick, actor_of, MovesOn, Ending, IsLeast, IsOver}
+use Rattle.ds_machine.proofs.Words.{Makes, Runs, due_at, over, stops, more, Geometry, actors_differ, at_rank, is_later, least_unique, run_exists}
+use Rattle.ds_machine.proofs.Words.{same_makes, HasShortRun, IsRunning, RunsAfter, RunsWithSome, last_limit, run_of, CatchesUpFor, ComesBeforeAll}
+use Rattle.ds_machine.proofs.Words.{StepsBeforeGeometry, TakesGeometry, IsAhead, rank_of, RunsAhead, Shown, dues_of, processor_due, reference}
+use Rattle.ds_machine.proofs.Words.{reference_step, HasSoundParts, IsSound, stepped_of, MachineState, counts_of, with_file, processor_of, tick_of}
+use Rattle.ds_machine.proofs.Words.{MayAct, MayStep, own_remaining, ticks_left, GxState}
+use Rattle.ds_runs.specs.LastLaws.{LeadsTo, here, step}
 use Rattle.ds_runs.specs.declared.actors.Actor as actor
-use Rattle.ds_runs.specs.declared.actors.Actor.TheVariants.{Geometry}
-use Rattle.ds_runs.proofs.AllActors.{actors_differ}
 use Rattle.ds_runs.proofs.Lasts.{last_after, last_ahead, last_lags}
-use Rattle.ds_runs.proofs.Lists.{at_rank, is_later, least_unique}
-use Rattle.ds_runs.proofs.RunExists.{least_is, place_rises, run_exists}
-use Rattle.ds_runs.proofs.RunLaws.{same_makes}
-use Rattle.ds_machine.specs.Counting.{CountsAddUp, EndsWithin, HasShortRun, IsRunning, LimitsRise, RunsAfter, RunsWithSome, StartsRunning, StepsCount, StepsKeepRunning, StopsCountNone, last_limit, run_of}
-use Rattle.ds_machine.specs.Lagging.{CatchesUpFor, ComesBeforeAll, StepsBeforeGeometry, TakesGeometry}
+use Rattle.ds_runs.proofs.RunExists.{least_is, place_rises}
+use Rattle.ds_machine.specs.CountingLaws.{CountsAddUp, EndsWithin, LimitsRise, StartsRunning, StepsCount, StepsKeepRunning, StopsCountNone}
 use Rattle.ds_machine.specs.Lagging as lagging
-use Rattle.ds_machine.specs.Private.{IsAhead, RunsAhead, rank_of}
-use Rattle.ds_machine.specs.Reference.{Shown, dues_of, next_shown, processor_due, reference, reference_step}
-use Rattle.ds_machine.specs.Sound.{HasSoundParts, IsSound}
-use Rattle.ds_machine.specs.StepAnswers.{stepped_of}
-use Rattle.ds_machine.specs.States.{MachineState, counts_of, with_file}
-use Rattle.ds_machine.specs.Steps.{processor_of, tick_of}
-use Rattle.ds_machine.specs.TurnSteps.{MayAct, MayStep, own_remaining, ticks_left}
+use Rattle.ds_machine.specs.Reference.{next_shown}
 use Rattle.ds_machine.specs.declared.answers.Done as answer
 use Rattle.ds_machine.specs.declared.answers.Done.TheVariants as answers
 use Rattle.ds_machine.proofs.ActingSteps.{Acted, ActedStops, CaughtUp, apart_goes, caught_up}
@@ -42,7 +28,6 @@ use Rattle.ds_machine.proofs.OwnRemaining.{fewer_left}
 use Rattle.ds_machine.proofs.StepsMay.{MayThen, steps_then}
 use Rattle.ds_machine.proofs.VertexRuns.{made_run, runs_in}
 use Rattle.ds_machine.proofs.VideoEvents.{ended_leaves}
-use Rattle.gx_fifo.specs.GxStates.{GxState}
 
 -- A machine that goes on: how many steps it took, by the last state of the reference run.
 

@@ -1,20 +1,9 @@
-use Rattle.std.specs.Prelude.{◌||◌, nat_lt}
-use Rattle.std.proofs.Common.{ℕ, ◌≡◌, ◌≢◌, ◌+◌, ◌==◌, ◌&&◌, ◌⊎◌, inl, inr, Bool, true, false, List, [], Option, Some, sym, ◌∙◌, ap, subst, arith}
-use Rattle.std.proofs.lemmas.Option.{none-some}
-use Rattle.ds_base.proofs.Choices.{true_or_false}
-use Rattle.ds_base.specs.declared.left_out.LeftOut.{LeftOut}
-use Rattle.ds_base.specs.declared.ticks.Tick.{Tick}
-use Rattle.ds_ports.specs.Acting.{is_quiet}
-use Rattle.ds_runs.specs.Actors.{actor_of}
-use Rattle.ds_runs.specs.Lags.{StepsBefore}
-use Rattle.ds_runs.specs.Runs.{IsLeast, Makes, Stops, due_at}
-use Rattle.ds_runs.proofs.AllActors.{actors_differ}
-use Rattle.ds_runs.proofs.Lists.{is_later, least_unique}
-use Rattle.ds_machine.specs.Acting.{acting_dues, is_due_before}
-use Rattle.ds_machine.specs.Lagging.{StepsBeforeGeometry, more_geometry, no_geometry, observes_by}
-use Rattle.ds_machine.specs.Reference.{Shown, dues_of, reference, reference_step}
-use Rattle.ds_machine.specs.Sound.{IsSound}
-use Rattle.ds_machine.specs.States.{MachineState}
+use Rattle.ds_machine.proofs.Words.{◌||◌, ℕ, ◌≡◌, ◌≢◌, ◌+◌, ◌==◌, ◌⊎◌, inl, inr, Bool, true, false, List, [], Option, Some, sym, ◌∙◌, ap, subst}
+use Rattle.ds_machine.proofs.Words.{arith, none-some, true_or_false, LeftOut, Tick, is_quiet, actor_of, StepsBefore, IsLeast, Makes, Stops, due_at}
+use Rattle.ds_machine.proofs.Words.{actors_differ, is_later, least_unique, acting_dues, is_due_before, StepsBeforeGeometry, more_geometry}
+use Rattle.ds_machine.proofs.Words.{no_geometry, observes_by, Shown, dues_of, reference, reference_step, IsSound, MachineState}
+use Rattle.std.specs.Prelude.{nat_lt}
+use Rattle.std.proofs.Common.{◌&&◌}
 use Rattle.ds_machine.proofs.ActingDues.{acting_low, acting_of_rank, loud_same}
 use Rattle.ds_machine.proofs.CatchingUp.{CaughtSo, caught_so}
 use Rattle.ds_machine.proofs.DueTicks.{due_of_least}

@@ -1,12 +1,5 @@
-use Rattle.std.proofs.Common.{ℕ, suc, ◌<◌, ◌^◌, List, [], ◌∷◌, slice_index}
-use Rattle.std.specs.List.{AllByRecursion}
-use Rattle.arm_core.specs.Saved.{AreRegisters}
-use Rattle.ds_base.specs.declared.processors.Proc.{Proc}
-use Rattle.ds_base.specs.declared.processors.Proc.TheVariants.{Nine, Seven}
-use Rattle.ds_ports.specs.Io.{IoState, io_of}
-use Rattle.ds_timers.specs.Irqs.{IsIrq}
-use Rattle.ds_machine.specs.States.{MachineState}
-use Rattle.ds_machine.specs.Steps.{processor_of}
+use Rattle.ds_machine.proofs.Words.{ℕ, suc, ◌<◌, ◌^◌, List, [], ◌∷◌, slice_index, AllByRecursion, AreRegisters, Proc, Nine, Seven, IoState, io_of}
+use Rattle.ds_machine.proofs.Words.{IsIrq, MachineState, processor_of}
 
 -- What holds of both, and of each.
 

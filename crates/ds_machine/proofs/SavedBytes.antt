@@ -1,19 +1,12 @@
-use Rattle.std.proofs.Common.{ℕ, ◌≡◌, Bool, false, List, Ok, Err, refl, subst}
-use Rattle.ds_base.specs.declared.processors.Proc.{Proc}
-use Rattle.ds_card.specs.Saved.{card_format}
-use Rattle.ds_dma.specs.Saved.{channel_format_by, dma_format_by}
-use Rattle.ds_dma.specs.States.{DmaState}
+use Rattle.ds_machine.proofs.Words.{ℕ, ◌≡◌, Bool, false, List, Ok, Err, refl, subst, Proc, card_format, channel_format_by, dma_format_by, DmaState}
+use Rattle.ds_machine.proofs.Words.{bytes_written, ◌>>=◌, ReadAnswer, read_format, IrqState, irq_levelled, irq_format_by, gx_format_by, video_format}
+use Rattle.ds_machine.proofs.Words.{Around, around_of, channels_format, machine_format_by, units_format, MachineState}
 use Rattle.ds_state.proofs.Exact.{one_spelling}
-use Rattle.ds_state.specs.Formats.{Format, done, then_field, then_part, list, bytes_written}
-use Rattle.ds_state.specs.Reading.{◌>>=◌, Left, ReadAnswer, read_code, read_format, read_list, ruled}
+use Rattle.ds_state.specs.Formats.{Format, done, then_field, then_part, list}
+use Rattle.ds_state.specs.Reading.{Left, read_code, read_list, ruled}
 use Rattle.ds_timers.proofs.SavedLaws.{irqs_saved}
-use Rattle.ds_timers.specs.Irqs.{IrqState, irq_levelled}
-use Rattle.ds_timers.specs.Saved.{irq_format_by}
-use Rattle.gx_fifo.specs.Saved.{gx_format_by}
-use Rattle.video2d.specs.Saved.{video_format}
 use Rattle.ds_machine.proofs.SavedExact.{machine_exact}
-use Rattle.ds_machine.specs.Saved.{Around, MachinesAreSaved, around_of, channels_format, machine_format_by, units_format}
-use Rattle.ds_machine.specs.States.{MachineState}
+use Rattle.ds_machine.specs.Saved.{MachinesAreSaved}
 
 -- The bytes are those of the state alone, and what is read has what was handed in.
 

@@ -1,27 +1,17 @@
-use Rattle.std.proofs.Common.{rules, ℕ, ◌≡◌, Bool, true, false, refl, ◌∙◌, ap}
-use Rattle.std.specs.Int.{bit_not, w32}
-use Rattle.arm_core.specs.Saved.{registers_format}
+use Rattle.ds_machine.proofs.Words.{rules, ℕ, ◌≡◌, Bool, true, false, refl, ◌∙◌, ap, bit_not, w32, registers_format, cp15_format, equal, Arch, V4, V5}
+use Rattle.ds_machine.proofs.Words.{Nine, Seven, and_or_apart, word_format, StandsFor, IrqState, events, irq_levelled, level, irq_format_by, gx_level}
+use Rattle.ds_machine.proofs.Words.{Around, SavedUnits, asked_of, is_late, channels_format, machine_format_by, memories_format, processor_format}
+use Rattle.ds_machine.proofs.Words.{processors_format, units_format}
 use Rattle.cp15_tcm.proofs.Kept.{control_again}
-use Rattle.cp15_tcm.specs.Saved.{cp15_format}
-use Rattle.ds_base.proofs.Choices.{equal}
-use Rattle.ds_base.specs.declared.processors.Arch.{Arch}
-use Rattle.ds_base.specs.declared.processors.Arch.TheVariants.{V4, V5}
-use Rattle.ds_base.specs.declared.processors.Proc.TheVariants.{Nine, Seven}
-use Rattle.std.proofs.lemmas.Nat.{and_or_apart}
 use Rattle.ds_card.proofs.SavedLaws.{card_exact}
 use Rattle.ds_dma.proofs.SavedLaws.{dma_exact}
 use Rattle.ds_ipc.proofs.SavedLaws.{ipc_exact}
 use Rattle.ds_math.proofs.SavedLaws.{divider_exact, root_exact}
-use Rattle.ds_state.specs.Formats.{word_format}
-use Rattle.ds_state.specs.Laws.{IsExact, StandsFor}
+use Rattle.ds_state.proofs.Standing.{IsExact}
 use Rattle.ds_timers.proofs.SavedLaws.{irq_exact, timers_exact}
-use Rattle.ds_timers.specs.Irqs.{IrqState, events, irq_levelled, level}
-use Rattle.ds_timers.specs.Saved.{irq_format_by}
 use Rattle.gx_fifo.proofs.SavedLaws.{gx_exact}
-use Rattle.gx_fifo.specs.GxStates.{gx_level}
 use Rattle.video2d.proofs.SavedLaws.{video_exact}
 use Rattle.vram_banks.specs.Saved.{banks_format}
-use Rattle.ds_machine.specs.Saved.{Around, SavedUnits, asked_of, is_late, channels_format, machine_format_by, memories_format, processor_format, processors_format, units_format}
 
 -- The machine's format is exact.
 

@@ -1,45 +1,22 @@
-use Rattle.std.proofs.Common.{ℕ, zero, suc, All, bit_and, bit_or, ◌^◌, ◌≡◌, ◌<◌, ◌≤◌, ◌+◌, ◌*◌, Bool, true, false, true≢false, if◌then◌else◌, List, [], ◌∷◌, Option, Ok, refl, sym, ap, subst, arith}
-use Rattle.std.specs.Prelude.{◌&&◌, not}
+use Rattle.ds_machine.proofs.Words.{ℕ, zero, suc, All, bit_and, bit_or, ◌^◌, ◌≡◌, ◌<◌, ◌≤◌, ◌+◌, ◌*◌, Bool, true, false, true≢false, if◌then◌else◌}
+use Rattle.ds_machine.proofs.Words.{List, [], ◌∷◌, Option, Ok, refl, sym, ap, subst, arith, ◌&&◌, not, HasNineStatuses, RegisterState}
+use Rattle.ds_machine.proofs.Words.{registers_format, HasStatuses, IsStatus, Cp15State, cp15_format, both_true, equal, if_true, is_equal, KeyLine}
+use Rattle.ds_machine.proofs.Words.{Arch, V4, V5, Nine, Seven, card_format, dma_format_by, any_runs, awaits_geometry, dma_due, DmaDue, divider_format}
+use Rattle.ds_machine.proofs.Words.{root_format, channel_comes_before, is_settled, release_by, release_of, IsOver, StandsFor, read_format, IrqState}
+use Rattle.ds_machine.proofs.Words.{events, irq_levelled, shares_bit, irq_format_by, timers_format, gx_level, is_half_empty, is_stalled, gx_format_by}
+use Rattle.ds_machine.proofs.Words.{Asked, scans_follow, video_format, ScanState, scan_due, IsRunning, dues_of, keys_due, Around, SavedChannels}
+use Rattle.ds_machine.proofs.Words.{SavedProcessor, SavedProcessors, SavedUnits, asked_of, channels_format, is_late, machine_format}
+use Rattle.ds_machine.proofs.Words.{machine_format_by, memories_format, processor_format, processors_format, released_again, saved_channels}
+use Rattle.ds_machine.proofs.Words.{saved_memories, saved_processors, saved_units, script_from, units_format, AreAsleep, HasSoundParts, MachineState}
+use Rattle.ds_machine.proofs.Words.{counts_of, with_file, HasBothStatuses}
 use Rattle.std.specs.Int.Bits.{and_le_r, or_add_and}
-use Rattle.arm9_exec.specs.Statuses.{HasNineStatuses}
-use Rattle.arm_core.specs.Registers.{RegisterState}
-use Rattle.arm_core.specs.Saved.{registers_format}
-use Rattle.arm_core.specs.Statuses.{HasStatuses, IsStatus}
-use Rattle.cp15_tcm.specs.Registers.{Cp15State, control_mask, control_ones}
-use Rattle.cp15_tcm.specs.Saved.{cp15_format}
-use Rattle.ds_base.proofs.Choices.{both_true, equal, if_true, is_equal}
-use Rattle.ds_base.specs.declared.keys.KeyLine.{KeyLine}
-use Rattle.ds_base.specs.declared.processors.Arch.{Arch}
-use Rattle.ds_base.specs.declared.processors.Arch.TheVariants.{V4, V5}
-use Rattle.ds_base.specs.declared.processors.Proc.TheVariants.{Nine, Seven}
-use Rattle.ds_card.specs.Saved.{card_format}
-use Rattle.ds_dma.specs.Saved.{dma_format_by}
-use Rattle.ds_dma.specs.States.{any_runs, awaits_geometry, dma_due}
-use Rattle.ds_dma.specs.declared.dma.DmaDue.{DmaDue}
-use Rattle.ds_math.specs.Saved.{divider_format, root_format}
-use Rattle.ds_ports.specs.Io.{channel_comes_before, is_settled, release_by, release_of}
-use Rattle.ds_runs.specs.Runs.{IsOver}
+use Rattle.cp15_tcm.specs.Registers.{control_mask, control_ones}
 use Rattle.ds_state.proofs.Codes.{AreBytes}
 use Rattle.ds_state.proofs.Exact.{reads_exactly}
-use Rattle.ds_state.specs.Laws.{StandsFor}
-use Rattle.ds_state.specs.Reading.{Left, read_format}
-use Rattle.ds_timers.specs.Irqs.{IrqState, events, irq_levelled, shares_bit}
-use Rattle.ds_timers.specs.Saved.{irq_format_by, timers_format}
-use Rattle.gx_fifo.specs.GxStates.{gx_level, is_half_empty, is_stalled}
-use Rattle.gx_fifo.specs.Saved.{gx_format_by}
-use Rattle.gx_fifo.specs.declared.gx.saved.Asked.{Asked}
-use Rattle.video2d.proofs.SavedScans.{scans_follow}
-use Rattle.video2d.specs.Saved.{video_format}
-use Rattle.video2d.specs.Scans.{ScanState, scan_due}
+use Rattle.ds_state.specs.Reading.{Left}
 use Rattle.ds_machine.proofs.Running.{starts_running}
 use Rattle.ds_machine.proofs.SavedExact.{machine_exact, saved_events}
 use Rattle.ds_machine.proofs.SavedRunning.{IsDueFrom, answered, card_from, divider_from, gx_from, gx_run, late_runs, levelled_twice, nine_asleep, nine_channel, over_from, own_from, own_from_nine, root_from, scan_again, script_due, seven_asleep, seven_channel, timers_from}
-use Rattle.ds_machine.specs.Counting.{IsRunning}
-use Rattle.ds_machine.specs.Reference.{dues_of, keys_due}
-use Rattle.ds_machine.specs.Saved.{Around, SavedChannels, SavedProcessor, SavedProcessors, SavedUnits, asked_of, channels_format, is_late, machine_format, machine_format_by, memories_format, processor_format, processors_format, released_again, saved_channels, saved_memories, saved_processors, saved_units, script_from, units_format}
-use Rattle.ds_machine.specs.Sound.{AreAsleep, HasSoundParts}
-use Rattle.ds_machine.specs.States.{MachineState, counts_of, with_file}
-use Rattle.ds_machine.specs.Statuses.{HasBothStatuses}
 
 -- A machine that bytes stand for goes on.
 

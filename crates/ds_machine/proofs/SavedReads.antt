@@ -1,15 +1,11 @@
-use Rattle.std.proofs.Common.{ℕ, ◌≡◌, Bool, Ok, Err, Result, ap, subst, sym}
+use Rattle.ds_machine.proofs.Words.{ℕ, ◌≡◌, Bool, Ok, Err, Result, ap, subst, sym, card_format, ◌>>=◌, ReadAnswer, read_format, GxState, gx_format_by}
+use Rattle.ds_machine.proofs.Words.{Asked, video_format, VideoState, Around, SavedChannels, SavedProcessors, SavedUnits, asked_of, channels_format}
+use Rattle.ds_machine.proofs.Words.{is_late, machine_format_by, memories_format, processors_format, units_format}
 use Rattle.std.specs.Prelude.{IsErrAnd}
-use Rattle.ds_card.specs.Saved.{card_format}
-use Rattle.ds_state.specs.Reading.{◌>>=◌, FailsIn, Fails, GivesIn, Left, ReadAnswer, read_format}
+use Rattle.ds_state.specs.Reading.{FailsIn, Fails, GivesIn, Left}
 use Rattle.ds_state.specs.declared.unpacker.Unpacked.{Unpacked}
 use Rattle.ds_state.specs.declared.unpacker.Unpacked.TheVariants.{NoMemory, Bad}
-use Rattle.gx_fifo.specs.GxStates.{GxState}
-use Rattle.gx_fifo.specs.Saved.{gx_format_by}
-use Rattle.gx_fifo.specs.declared.gx.saved.Asked.{Asked}
-use Rattle.video2d.specs.Saved.{video_format}
-use Rattle.video2d.specs.Videos.{VideoState}
-use Rattle.ds_machine.specs.Saved.{Around, SavedChannels, SavedMemories, SavedProcessors, SavedUnits, asked_of, channels_format, is_late, machine_format_by, memories_format, processors_format, units_format}
+use Rattle.ds_machine.specs.Saved.{SavedMemories}
 
 -- Where a part of the machine isn't read, the machine isn't.
 

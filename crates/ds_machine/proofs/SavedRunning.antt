@@ -1,42 +1,22 @@
-use Rattle.std.proofs.Common.{ℕ, zero, suc, ◌≡◌, ◌≤◌, ◌==◌, nat_lt, Bool, true, false, true≢false, if◌then◌else◌, IfSome, List, [], ◌∷◌, Option, Some, None, bit_and, bit_or, max, refl, sym, ◌∙◌, ap, subst, arith}
-use Rattle.std.specs.Prelude.{◌&&◌, ◌||◌, not}
-use Rattle.std.specs.Int.{bit_at, bit_not, w32}
-use Rattle.std.specs.List.{AllByRecursion}
-use Rattle.std.proofs.Math.Nat.{le-max_left, le-max_right}
-use Rattle.std.proofs.lemmas.Nat.Bits.{bit_at-zero, bit_at_and, bit_at_or, same_from_bits}
-use Rattle.ds_base.proofs.Choices.{both, both_true, equal, le_of, not_false, not_lt, not_true}
-use Rattle.ds_base.specs.Schedules.{due_number}
-use Rattle.ds_base.specs.declared.keys.KeyLine.{KeyLine}
-use Rattle.ds_base.specs.declared.processors.Proc.TheVariants.{Seven}
-use Rattle.ds_base.specs.declared.ticks.Tick.{Tick}
-use Rattle.ds_card.specs.Cards.{CardState, card_due}
-use Rattle.ds_card.specs.Saved.{card_format}
+use Rattle.ds_machine.proofs.Words.{ℕ, zero, suc, ◌≡◌, ◌≤◌, ◌==◌, nat_lt, Bool, true, false, true≢false, if◌then◌else◌, List, [], ◌∷◌, Option, Some}
+use Rattle.ds_machine.proofs.Words.{None, bit_and, bit_or, max, refl, sym, ◌∙◌, ap, subst, arith, ◌&&◌, ◌||◌, not, bit_at, bit_not, w32}
+use Rattle.ds_machine.proofs.Words.{AllByRecursion, le-max_left, le-max_right, bit_at-zero, bit_at_and, bit_at_or, same_from_bits, both, both_true}
+use Rattle.ds_machine.proofs.Words.{equal, le_of, not_false, due_number, KeyLine, Seven, Tick, CardState, card_due, card_format, ChannelState}
+use Rattle.ds_machine.proofs.Words.{is_running, ready, channel_format_by, dma_format_by, DmaState, any_runs, channel_at, channel_due, dma_due}
+use Rattle.ds_machine.proofs.Words.{due_with, least_running, divider_format, root_format, held_due, channel_comes_before, IsOver, kept_twice, soon}
+use Rattle.ds_machine.proofs.Words.{StandsFor, IrqState, events, irq_levelled, level, shares_bit, irq_format_by, timers_format, TimerState, timer_at}
+use Rattle.ds_machine.proofs.Words.{timer_due, GxState, gx_level, is_half_empty, is_stalled, waiting_entries, gx_format_by, holds_by, Asked}
+use Rattle.ds_machine.proofs.Words.{video_format, scan_before, VideoState, keys_due, script_from}
+use Rattle.std.proofs.Common.{IfSome}
+use Rattle.ds_base.proofs.Choices.{not_lt, not_true}
 use Rattle.ds_dma.proofs.SavedLaws.{none_earlier}
-use Rattle.ds_dma.specs.Channels.{ChannelState, is_running, ready}
-use Rattle.ds_dma.specs.Saved.{channel_format_by, comes_by, dma_format_by, last_must, must_run}
-use Rattle.ds_dma.specs.States.{DmaState, any_runs, channel_at, channel_due, dma_due, due_with, least_running}
+use Rattle.ds_dma.specs.Saved.{comes_by, last_must, must_run}
 use Rattle.ds_math.specs.Dividers.{DividerState}
 use Rattle.ds_math.specs.Roots.{RootState}
-use Rattle.ds_math.specs.Saved.{divider_format, root_format}
-use Rattle.ds_ports.specs.Dues.{held_due}
-use Rattle.ds_ports.specs.Io.{channel_comes_before}
-use Rattle.ds_runs.specs.Runs.{IsOver}
-use Rattle.ds_state.proofs.Kept.{kept_twice}
-use Rattle.ds_state.specs.Formats.{soon}
-use Rattle.ds_state.specs.Laws.{StandsFor}
-use Rattle.ds_timers.specs.Irqs.{IrqState, events, irq_levelled, level, shares_bit}
-use Rattle.ds_timers.specs.Saved.{anchor_number, anchors_by, irq_format_by, numbered_anchor, sleeps_by, timer_format, timers_format}
-use Rattle.ds_timers.specs.Timing.{TimerState, full, pace, runs_free, timer_at, timer_due}
-use Rattle.gx_fifo.specs.GxStates.{GxState, gx_level, is_half_empty, is_stalled, waiting_entries}
-use Rattle.gx_fifo.specs.Saved.{gx_format_by, holds_by}
-use Rattle.gx_fifo.specs.declared.gx.saved.Asked.{Asked}
+use Rattle.ds_timers.specs.Saved.{anchor_number, anchors_by, numbered_anchor, sleeps_by, timer_format}
+use Rattle.ds_timers.specs.Timing.{full, pace, runs_free}
 use Rattle.gx_geometry.specs.Saved.{geometry_format}
 use Rattle.gx_geometry.specs.States.{GeometryState}
-use Rattle.video2d.specs.Saved.{video_format}
-use Rattle.video2d.specs.Scans.{scan_before}
-use Rattle.video2d.specs.Videos.{VideoState}
-use Rattle.ds_machine.specs.Reference.{keys_due}
-use Rattle.ds_machine.specs.Saved.{script_from}
 
 -- What a part that bytes stand for keeps: no tick at which it is due is earlier than that of the state.
 

@@ -1,7 +1,6 @@
-use Rattle.std.proofs.Common.{ℕ, ◌≡◌, ◌<◌, nat_lt, true, false, true≢false, List, [], ◌∷◌, length, refl, sym, ◌∙◌, ap, arith}
-use Rattle.ds_base.proofs.Choices.{if_false, if_true}
-use Rattle.ds_base.specs.declared.keys.KeyLine.{KeyLine}
-use Rattle.ds_machine.specs.Saved.{script_from, starts_before}
+use Rattle.ds_machine.proofs.Words.{ℕ, ◌≡◌, ◌<◌, nat_lt, true, false, true≢false, List, [], ◌∷◌, length, refl, sym, ◌∙◌, ap, arith, if_false, if_true}
+use Rattle.ds_machine.proofs.Words.{KeyLine, script_from}
+use Rattle.ds_machine.specs.Saved.{starts_before}
 
 -- The lines of a key script that are due at a tick or later.
 

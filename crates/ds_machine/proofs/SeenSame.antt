@@ -1,22 +1,9 @@
-use Rattle.std.proofs.Common.{ℕ, ◌≡◌, ◌%◌, ◌^◌, Bool, true, false, if◌then◌else◌, Some, refl, sym, ◌∙◌, ap}
-use Rattle.ds_base.specs.declared.memories.Width.{Width}
+use Rattle.ds_machine.proofs.Words.{ℕ, ◌≡◌, ◌%◌, ◌^◌, Bool, true, false, if◌then◌else◌, Some, refl, sym, ◌∙◌, ap, Width, Proc, Nine, Seven, Tick}
+use Rattle.ds_machine.proofs.Words.{is_thumb, enters, tcm_of, Tcm, Itcm, Dtcm, Past, tcm_fetched, with_gx, GxState, fetch_of, processor_due}
+use Rattle.ds_machine.proofs.Words.{MachineState, ProcessorState, is_blocked, line_of, nine_reach, processor_of, seven_reach, tick_of}
 use Rattle.ds_base.specs.declared.memories.Width.TheVariants as width
-use Rattle.ds_base.specs.declared.processors.Proc.{Proc}
-use Rattle.ds_base.specs.declared.processors.Proc.TheVariants.{Nine, Seven}
-use Rattle.ds_base.specs.declared.ticks.Tick.{Tick}
-use Rattle.arm_core.specs.Registers.{is_thumb}
-use Rattle.arm_core.specs.Steps.{enters}
-use Rattle.cp15_tcm.specs.TightlyCoupled.{tcm_of}
-use Rattle.cp15_tcm.specs.declared.answers.Tcm.{Tcm}
-use Rattle.cp15_tcm.specs.declared.answers.Tcm.TheVariants.{Itcm, Dtcm, Past}
-use Rattle.ds_map.specs.Views.{tcm_fetched}
-use Rattle.ds_ports.specs.Io.{with_gx}
-use Rattle.gx_fifo.specs.GxStates.{GxState}
 use Rattle.ds_map.proofs.GxApart as gx_map
-use Rattle.ds_machine.specs.Inspections.{fetch_of, seen_by, seen_of}
-use Rattle.ds_machine.specs.Reference.{processor_due}
-use Rattle.ds_machine.specs.States.{MachineState, ProcessorState}
-use Rattle.ds_machine.specs.Steps.{is_blocked, line_of, nine_reach, processor_of, seven_reach, tick_of}
+use Rattle.ds_machine.specs.Inspections.{seen_by, seen_of}
 use Rattle.ds_machine.specs.declared.answers.Seen.{Seen}
 use Rattle.ds_machine.specs.declared.answers.Seen.TheVariants.{Half, Irq, Word}
 use Rattle.ds_machine.proofs.CatchingUp.{CaughtSo}

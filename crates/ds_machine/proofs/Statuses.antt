@@ -1,42 +1,24 @@
-use Rattle.std.proofs.Common.{ℕ, ◌≡◌, ◌+◌, Bool, List, [], ◌∷◌, take, All, Option, Some, None, refl, sym, subst, arith}
+use Rattle.ds_machine.proofs.Words.{ℕ, ◌≡◌, ◌+◌, Bool, List, [], ◌∷◌, take, All, Option, Some, None, refl, sym, subst, arith, either, KeyLine}
+use Rattle.ds_machine.proofs.Words.{LeftOut, Arch, V4, V5, Proc, Nine, Seven, Tick, Outcome, RegisterState, Cost, Halted, Left, IsStatus, HasStatuses}
+use Rattle.ds_machine.proofs.Words.{arm7, HasNineStatuses, image_of, image_place, NineReach, SevenReach, nine_memory, seven_memory, actor_of, Ending}
+use Rattle.ds_machine.proofs.Words.{At, MachineStep, Makes, Stops, Runs, over, stops, more, Dma, Processor, header_bytes, header_place, machine_blank}
+use Rattle.ds_machine.proofs.Words.{with_image, copied, stored, Shown, awake, due_by, reference, reference_step, step_by, stepped_of, nine_side}
+use Rattle.ds_machine.proofs.Words.{seven_side, side_taken, MachineState, HasBothStatuses, left_by, ended, goes_on, gone_by, line_of}
+use Rattle.ds_machine.proofs.Words.{machine_concluded, machine_settled, nine_reach, outcome_of, processor_of, processor_step, seven_reach, tick_of}
+use Rattle.ds_machine.proofs.Words.{wakes, woken_one, machine_graft, unchanged_by}
 use Rattle.std.proofs.lemmas.List.Elements.{All-cons, All-nil}
-use Rattle.ds_base.proofs.Choices.{either}
-use Rattle.ds_base.specs.declared.keys.KeyLine.{KeyLine}
-use Rattle.ds_base.specs.declared.left_out.LeftOut.{LeftOut}
-use Rattle.ds_base.specs.declared.processors.Arch.{Arch}
-use Rattle.ds_base.specs.declared.processors.Arch.TheVariants.{V4, V5}
-use Rattle.ds_base.specs.declared.processors.Proc.{Proc}
-use Rattle.ds_base.specs.declared.processors.Proc.TheVariants.{Nine, Seven}
-use Rattle.ds_base.specs.declared.ticks.Tick.{Tick}
 use Rattle.arm_core.specs.Cores as cores
-use Rattle.arm_core.specs.Effects.{Outcome}
-use Rattle.arm_core.specs.Registers.{RegisterState}
 use Rattle.arm_core.specs.declared.outcomes.Stepped as arm
-use Rattle.arm_core.specs.declared.outcomes.Stepped.TheVariants.{Cost, Halted, Left}
-use Rattle.arm_core.specs.Statuses.{IsStatus, HasStatuses}
 use Rattle.arm_exec.proofs.StatusBits.{no_status}
 use Rattle.arm_exec.proofs.StatusSteps.{step_has}
-use Rattle.arm7_exec.specs.Arm7.{arm7}
-use Rattle.arm9_exec.specs.Statuses.{HasNineStatuses}
 use Rattle.arm9_exec.proofs.Statuses.{step9_has}
-use Rattle.ds_header.specs.Fields.{image_entry, image_of, image_place}
-use Rattle.ds_map.specs.Views.{NineReach, SevenReach, nine_memory, seven_memory}
-use Rattle.ds_runs.specs.Actors.{actor_of}
+use Rattle.ds_header.specs.Fields.{image_entry}
 use Rattle.ds_runs.specs.Runs as runs
-use Rattle.ds_runs.specs.Runs.{Ending, At, MachineStep, Makes, Stops, Runs, over, stops, more}
 use Rattle.ds_runs.specs.declared.actors.Actor as actor
-use Rattle.ds_runs.specs.declared.actors.Actor.TheVariants.{Dma, Processor}
-use Rattle.ds_machine.specs.Booted.{header_bytes, header_place, machine_blank, stacks_of, with_image}
-use Rattle.ds_machine.specs.Boots.{copied, stored}
-use Rattle.ds_machine.specs.Reference.{Shown, awake, due_by, reference, reference_step, step_by}
-use Rattle.ds_machine.specs.StepAnswers.{stepped_of}
-use Rattle.ds_machine.specs.PrivateSides.{nine_side, seven_side, side_taken}
-use Rattle.ds_machine.specs.States.{MachineState}
+use Rattle.ds_machine.specs.Booted.{stacks_of}
 use Rattle.ds_machine.specs.declared.answers.Done as answer
 use Rattle.ds_machine.specs.declared.answers.Done.TheVariants as answers
-use Rattle.ds_machine.specs.Statuses.{HasBothStatuses, BootsWithStatuses, RunsKeepStatuses, StepsKeepStatuses, left_by}
-use Rattle.ds_machine.specs.Steps.{ended, goes_on, gone_by, line_of, machine_concluded, machine_settled, nine_reach, outcome_of, processor_of, processor_step, seven_reach, tick_of, wakes, woken_one}
-use Rattle.ds_machine.specs.Touched.{machine_graft, unchanged_by}
+use Rattle.ds_machine.specs.Statuses.{BootsWithStatuses, RunsKeepStatuses, StepsKeepStatuses}
 use Rattle.ds_machine.proofs.OwnSteps.{is_step7, is_step9}
 use Rattle.ds_machine.proofs.Touched.{each_touches}
 

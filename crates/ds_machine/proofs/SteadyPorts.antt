@@ -1,8 +1,6 @@
-use Rattle.std.proofs.Common.{ℕ, ◌≡◌, ◌≤◌, ◌<◌, ◌-◌, ◌&&◌, nat_le, nat_lt, true, false, arith}
-use Rattle.std.specs.Prelude.{not}
-use Rattle.std.proofs.lemmas.Bool.{and_parts, not-true}
+use Rattle.ds_machine.proofs.Words.{ℕ, ◌≡◌, ◌≤◌, ◌<◌, ◌-◌, nat_le, nat_lt, true, false, arith, not, and_parts, not-true, is_steady_port}
+use Rattle.std.proofs.Common.{◌&&◌}
 use Rattle.ds_map.specs.ObservedPorts.{is_observed_port}
-use Rattle.ds_machine.specs.SteadyPorts.{is_steady_port}
 
 -- Where ports stand of which a read changes no unit, and shows nothing of geometry.
 

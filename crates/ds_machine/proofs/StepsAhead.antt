@@ -1,20 +1,7 @@
-use Rattle.std.proofs.Common.{ℕ, ◌≡◌, ◌<◌, ◌+◌, List, refl, sym, ◌∙◌, ap, subst, []}
-use Rattle.std.specs.Prelude.{◌&&◌}
-use Rattle.ds_base.specs.KeyLines.{AreKeyLines}
-use Rattle.ds_base.specs.declared.processors.Proc.{Proc}
-use Rattle.ds_base.specs.declared.processors.Proc.TheVariants.{Nine, Seven}
-use Rattle.ds_ipc.specs.Ipcs.{other_proc}
-use Rattle.ds_ports.specs.Happenings.{IsIo}
-use Rattle.ds_ports.specs.Io.{IoState, io_of, is_settled}
-use Rattle.ds_runs.specs.Runs.{Makes}
-use Rattle.ds_timers.specs.Irqs.{shares_bit}
-use Rattle.ds_map.specs.Shares.{IsSharedSo}
-use Rattle.ds_machine.specs.Apart.{NineOwn, nine_own_of, with_nine_own, with_seven_part}
-use Rattle.ds_machine.specs.Private.{IsHarmless, rank_of}
-use Rattle.ds_machine.specs.Reference.{reference_step}
-use Rattle.ds_machine.specs.Sound.{HasSoundParts, IsSound}
-use Rattle.ds_machine.specs.States.{MachineState, SevenState}
-use Rattle.ds_machine.specs.Steps.{nine_reach, processor_of, seven_reach, tick_of}
+use Rattle.ds_machine.proofs.Words.{ℕ, ◌≡◌, ◌<◌, ◌+◌, List, refl, sym, ◌∙◌, ap, subst, [], ◌&&◌, AreKeyLines, Proc, Nine, Seven, other_proc, IsIo}
+use Rattle.ds_machine.proofs.Words.{IoState, io_of, is_settled, Makes, shares_bit, IsSharedSo, NineOwn, nine_own_of, with_nine_own, with_seven_part}
+use Rattle.ds_machine.proofs.Words.{IsHarmless, rank_of, reference_step, HasSoundParts, IsSound, MachineState, SevenState, nine_reach, processor_of}
+use Rattle.ds_machine.proofs.Words.{seven_reach, tick_of}
 use Rattle.ds_machine.proofs.InnerLaw.{after_nine, after_seven, calm, inner_nine, inner_seven, nine_later, nine_fits, seven_later}
 
 -- A processor's step before its turn: what it leaves.

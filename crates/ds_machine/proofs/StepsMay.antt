@@ -1,31 +1,11 @@
-use Rattle.std.proofs.Common.{ℕ, ◌≡◌, ◌<◌, ◌⊎◌, inl, inr, Bool, true, false, if◌then◌else◌, List, ◌∷◌, Some, Result, Ok, Err, refl, sym, ◌∙◌, ap, subst, []}
-use Rattle.ds_base.specs.Schedules.{IsLater}
-use Rattle.ds_base.specs.declared.left_out.LeftOut.{LeftOut}
-use Rattle.ds_base.specs.declared.left_out.Stop.{Stop}
-use Rattle.ds_base.specs.declared.processors.Proc.{Proc}
-use Rattle.ds_base.specs.declared.processors.Proc.TheVariants.{Nine, Seven}
-use Rattle.ds_base.specs.declared.ticks.Tick.{Tick}
-use Rattle.ds_ports.specs.Dues.{io_due}
-use Rattle.ds_runs.specs.Actors.{actor_of}
-use Rattle.ds_runs.specs.Runs.{IsLeast, MachineStep, Makes, due_at}
+use Rattle.ds_machine.proofs.Words.{ℕ, ◌≡◌, ◌<◌, ◌⊎◌, inl, inr, Bool, true, false, if◌then◌else◌, List, ◌∷◌, Some, Result, Ok, Err, refl, sym, ◌∙◌}
+use Rattle.ds_machine.proofs.Words.{ap, subst, [], IsLater, LeftOut, Stop, Proc, Nine, Seven, Tick, io_due, actor_of, IsLeast, MachineStep, Makes}
+use Rattle.ds_machine.proofs.Words.{due_at, KeyScript, Video, Timer, Geometry, Dma, Processor, is_numbered, same_makes, not_both, GxState, Swapped}
+use Rattle.ds_machine.proofs.Words.{scan_due, scan_due_tick, VideoState, video_answer, acting_dues, stopped_at, ActsUnobserving, IsAhead, rank_of}
+use Rattle.ds_machine.proofs.Words.{Shown, after_event, after_geometry, after_line, after_video, dues_of, reference_step, shown_at, step_by}
+use Rattle.ds_machine.proofs.Words.{video_step, HasSoundParts, stepped_of, MachineState, ended, processor_of, tick_of}
 use Rattle.ds_runs.specs.declared.actors.Actor as actor
-use Rattle.ds_runs.specs.declared.actors.Actor.TheVariants.{KeyScript, Video, Timer, Geometry, Dma, Processor}
-use Rattle.ds_runs.proofs.AllActors.{is_numbered}
-use Rattle.ds_runs.proofs.RunLaws.{same_makes, not_both}
-use Rattle.gx_fifo.specs.GxStates.{GxState}
-use Rattle.gx_geometry.specs.States.{Swapped}
-use Rattle.video2d.specs.Scans.{scan_due, scan_due_tick}
-use Rattle.video2d.specs.Videos.{VideoState, video_answer}
 use Rattle.video2d.specs.declared.videos.Shown as display
-use Rattle.ds_machine.specs.Acting.{acting_dues}
-use Rattle.ds_machine.specs.Channels.{stopped_at}
-use Rattle.ds_machine.specs.Lagging.{ActsUnobserving}
-use Rattle.ds_machine.specs.Private.{IsAhead, rank_of}
-use Rattle.ds_machine.specs.Reference.{Shown, after_event, after_geometry, after_line, after_video, dues_of, reference_step, shown_at, step_by, video_step}
-use Rattle.ds_machine.specs.Sound.{HasSoundParts}
-use Rattle.ds_machine.specs.StepAnswers.{stepped_of}
-use Rattle.ds_machine.specs.States.{MachineState}
-use Rattle.ds_machine.specs.Steps.{ended, processor_of, tick_of}
 use Rattle.ds_machine.specs.declared.answers.Done as answer
 use Rattle.ds_machine.specs.declared.answers.Done.TheVariants as answers
 use Rattle.ds_machine.proofs.ActingDues.{due_where_acts}

@@ -1,78 +1,40 @@
-use Rattle.std.proofs.Common.{ℕ, ◌≢◌, ◌==◌, ◌+◌, ◌/◌, ◌%◌, ◌^◌, ◌&&◌, not, Bool, true, false, if◌then◌else◌, List, [], ◌∷◌, map, Option, Some, None, subst}
+use Rattle.ds_machine.proofs.Words.{ℕ, ◌≢◌, ◌==◌, ◌+◌, ◌/◌, ◌%◌, ◌^◌, Bool, true, false, if◌then◌else◌, List, [], ◌∷◌, map, Option, Some, None, subst}
+use Rattle.ds_machine.proofs.Words.{either, Access, Fetch, MemoryMachine, Performed, Read, Write, perform, refused_or, bit, CardState, start_refusal}
+use Rattle.ds_machine.proofs.Words.{aligned_down, LeftOut, Stop, Width, Byte, Half, Word, Arch, Proc, Nine, Seven, Tick, Instr, Swi, ThumbSwi, holds}
+use Rattle.ds_machine.proofs.Words.{Meaning, Outcome, carried_out, concluded, interrupt_meaning, undefined_meaning, condition, meaning, skipped}
+use Rattle.ds_machine.proofs.Words.{RegisterState, register, Setting, enters, executed_unless, executed_word, fetched, stop_of, swi_stop, Cost}
+use Rattle.ds_machine.proofs.Words.{Halted, Left, condition_of, arm7, arm9, MoveOutcome, carried_over, move_of, moved_if, register_moved, written_by}
+use Rattle.ds_machine.proofs.Words.{Moved, Cp15Register, Cp15State, write_answer, tcm_of, Tcm, Itcm, Dtcm, Past, is_enabled, channel_at, Cell, Banks}
+use Rattle.ds_machine.proofs.Words.{Port, Rom, Nothing, place_of, map_refusal, refusal_at, MapState, next_unit, unit_moved, unit_refusal, NineReach}
+use Rattle.ds_machine.proofs.Words.{SevenReach, nine_memory, seven_memory, tcm_refusal, io_due, IoState, io_of, ignores, port_refusal, slot_joined}
+use Rattle.ds_machine.proofs.Words.{whole_in, slot_of, meaning_of, Register, Auxspicnt, CardWord, Dmacnt, Haltcnt, Slot, actor_of, MachineStep, Makes}
+use Rattle.ds_machine.proofs.Words.{Stops, Dma, Processor, Video, VideoState, answer_unless, video_shown, video_stop, channel_step, moved_by, Shown}
+use Rattle.ds_machine.proofs.Words.{awake, due_by, step_by, video_step, SideOf, nine_side, seven_side, side_taken, side_waits, nine_executed, taken}
+use Rattle.ds_machine.proofs.Words.{MachineState, in_ticks, line_of, machine_concluded, map_of, nine_reach, outcome_of, processor_of, seven_reach}
+use Rattle.ds_machine.proofs.Words.{tick_of, with_map}
+use Rattle.std.proofs.Common.{◌&&◌, not}
 use Rattle.std.specs.List.{range_with_len}
-use Rattle.ds_base.proofs.Choices.{either}
-use Rattle.ds_base.specs.Accesses.{Access, Fetch, MemoryMachine, Performed, Read, Write, perform, refused_or}
-use Rattle.ds_base.specs.Bits.{bit}
-use Rattle.ds_card.specs.Cards.{CardState, start_refusal}
-use Rattle.ds_base.specs.Numbers.{aligned_down}
 use Rattle.ds_base.specs.declared.left_out.LeftKind.{LeftKind}
 use Rattle.ds_base.specs.declared.left_out.LeftKind.TheVariants as kinds
-use Rattle.ds_base.specs.declared.left_out.LeftOut.{LeftOut}
-use Rattle.ds_base.specs.declared.left_out.Stop.{Stop}
-use Rattle.ds_base.specs.declared.memories.Width.{Width}
-use Rattle.ds_base.specs.declared.memories.Width.TheVariants.{Byte, Half, Word}
-use Rattle.ds_base.specs.declared.processors.Arch.{Arch}
-use Rattle.ds_base.specs.declared.processors.Proc.{Proc}
-use Rattle.ds_base.specs.declared.processors.Proc.TheVariants.{Nine, Seven}
-use Rattle.ds_base.specs.declared.ticks.Tick.{Tick}
-use Rattle.arm_words.specs.declared.instructions.Instr.{Instr}
-use Rattle.arm_words.specs.declared.instructions.Instr.TheVariants.{Swi, ThumbSwi}
-use Rattle.arm_core.specs.Conditions.{holds}
-use Rattle.arm_core.specs.Effects.{Meaning, Outcome, carried_out, concluded}
-use Rattle.arm_core.specs.Exceptions.{interrupt_meaning, undefined_meaning}
-use Rattle.arm_core.specs.Meanings.{condition, meaning, skipped}
-use Rattle.arm_core.specs.Registers.{RegisterState, register}
-use Rattle.arm_core.specs.Steps.{Setting, enters, executed_unless, executed_word, fetched, is_served, stop_of, swi_stop}
+use Rattle.arm_core.specs.Steps.{is_served}
 use Rattle.arm_core.specs.declared.outcomes.Stepped as arm
-use Rattle.arm_core.specs.declared.outcomes.Stepped.TheVariants.{Cost, Halted, Left}
-use Rattle.arm_words.specs.Parts.{condition_of}
-use Rattle.arm7_exec.specs.Arm7.{arm7}
-use Rattle.arm9_exec.specs.Arm9.{arm9}
-use Rattle.arm9_exec.specs.Coprocessors.{MoveOutcome, carried_over, move_of, moved_if, register_moved, written_by}
-use Rattle.arm9_exec.specs.declared.coprocessors.Moved.{Moved}
-use Rattle.cp15_tcm.specs.Registers.{Cp15Register, Cp15State, asks_big_endian, write_answer}
+use Rattle.cp15_tcm.specs.Registers.{asks_big_endian}
 use Rattle.cp15_tcm.specs.Registers.Cp15Register.{WaitForInterrupt}
-use Rattle.cp15_tcm.specs.TightlyCoupled.{tcm_of}
 use Rattle.cp15_tcm.specs.declared.answers.Mcr as answer
 use Rattle.cp15_tcm.specs.declared.answers.Mcr.TheVariants as mcr
-use Rattle.cp15_tcm.specs.declared.answers.Tcm.{Tcm}
-use Rattle.cp15_tcm.specs.declared.answers.Tcm.TheVariants.{Itcm, Dtcm, Past}
-use Rattle.ds_dma.specs.Controls.{is_enabled, is_left_out, kept_channel_control, refusal}
-use Rattle.ds_dma.specs.States.{channel_at}
+use Rattle.ds_dma.specs.Controls.{is_left_out, kept_channel_control, refusal}
 use Rattle.ds_places.specs.declared.kinds.Place as place
-use Rattle.ds_places.specs.declared.kinds.Place.TheVariants.{Cell, Banks, Port, Rom, Nothing}
-use Rattle.ds_places.specs.AddressTables.{place_of}
-use Rattle.ds_map.specs.Accesses.{map_refusal, refusal_at}
-use Rattle.ds_map.specs.Maps.{MapState}
-use Rattle.ds_map.specs.Moves.{next_unit, unit_moved, unit_refusal}
-use Rattle.ds_map.specs.Views.{NineReach, SevenReach, nine_memory, seven_memory, tcm_refusal}
-use Rattle.ds_ports.specs.Dues.{io_due}
-use Rattle.ds_ports.specs.Io.{IoState, io_of}
-use Rattle.ds_ports.specs.Ports.{byte_refusal, first_stop, half_refusal, ignores, port_refusal, refusal_or, slot_joined, slot_refusal, whole_in, word_refusal}
-use Rattle.ds_ports.specs.RegisterMap.{slot_of}
-use Rattle.ds_ports.specs.Registers.{halt_refusal, is_mode_left_out, meaning_of}
-use Rattle.ds_ports.specs.declared.registers.Register.{Register}
-use Rattle.ds_ports.specs.declared.registers.Register.TheVariants.{Auxspicnt, CardWord, Dmacnt, Haltcnt}
-use Rattle.ds_ports.specs.declared.registers.Slot.{Slot}
-use Rattle.ds_runs.specs.Actors.{actor_of}
-use Rattle.ds_runs.specs.Runs.{MachineStep, Makes, Stops}
+use Rattle.ds_ports.specs.Ports.{byte_refusal, first_stop, half_refusal, refusal_or, slot_refusal, word_refusal}
+use Rattle.ds_ports.specs.Registers.{halt_refusal, is_mode_left_out}
 use Rattle.ds_runs.specs.declared.actors.Actor as actor
-use Rattle.ds_runs.specs.declared.actors.Actor.TheVariants.{Dma, Processor, Video}
 use Rattle.video2d.specs.Backgrounds.{is_background_on}
 use Rattle.video2d.specs.Engines.{EngineState, background_mosaic, bgcnt}
 use Rattle.video2d.specs.Pictures.{is_engine_enabled, is_forced_blank, object_memory, shows_layers}
 use Rattle.video2d.specs.Scans.{blanks_drawn_line}
 use Rattle.video2d.specs.Stops.{first_need, needed_if, needs_capture, needs_display_mode, needs_mode, needs_of_background, needs_of_engine, needs_of_line, needs_of_object, needs_of_objects, needs_of_objects_shown, value_of_engine}
-use Rattle.video2d.specs.Videos.{VideoState, answer_unless, video_shown, video_stop}
 use Rattle.video2d.specs.declared.engines.Engine.{Engine}
 use Rattle.video2d.specs.declared.engines.Engine.TheVariants.{A, B}
 use Rattle.video2d.specs.declared.videos.Shown as display
-use Rattle.ds_machine.specs.Channels.{channel_step, moved_by}
-use Rattle.ds_machine.specs.Reference.{Shown, awake, due_by, step_by, video_step}
-use Rattle.ds_machine.specs.PrivateSides.{SideOf, nine_side, seven_side, side_taken, side_waits}
-use Rattle.ds_machine.specs.Sides.{nine_executed, taken}
-use Rattle.ds_machine.specs.States.{MachineState}
-use Rattle.ds_machine.specs.Steps.{in_ticks, line_of, machine_concluded, map_of, nine_reach, outcome_of, processor_of, seven_reach, tick_of, with_map}
 use Rattle.ds_machine.specs.Stopping.{NoStopIsNotYet}
 
 -- No step stops for want of what isn't built yet.
@@ -286,13 +248,13 @@ module _ {S : Type 0} (memory : MemoryMachine S) (refuses : (s : S) (at : ℕ) (
   word_came setting old s number None =
       carried_named setting.arch old s (if holds (condition_of number) old.cpsr then undefined_meaning setting.base old else skipped old)
 
-  taken_named : (side : SideOf S) → ((old : RegisterState) (s : S) (number : ℕ) (instr : Option Instr) → CameNamed (side.executed old s number instr).stepped)
+  taken_named : (side : SideOf S) → ((old : RegisterState) (s : S) (number : ℕ) (instr : Option Instr) → CameNamed (side.step.executed old s number instr).stepped)
       → (line : Bool) (old : RegisterState) (s : S) → CameNamed (side_taken memory side line old s).stepped
   unfolding taken
   taken_named side executes line old s =
-      let f = fetched memory side.arch old s in
-      either (λ (o : Outcome S). CameNamed o.stepped) (enters line old) (carried_out memory side.arch old s (interrupt_meaning (side.base s) old)) (side.executed old s f.number f.instr)
-      (carried_named side.arch old s (interrupt_meaning (side.base s) old)) (executes old s f.number f.instr)
+      let f = fetched memory side.step.arch old s in
+      either (λ (o : Outcome S). CameNamed o.stepped) (enters line old) (carried_out memory side.step.arch old s (interrupt_meaning (side.step.base s) old)) (side.step.executed old s f.number f.instr)
+      (carried_named side.step.arch old s (interrupt_meaning (side.step.base s) old)) (executes old s f.number f.instr)
 
 -- ---- a move to CP15
 

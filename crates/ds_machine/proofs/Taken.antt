@@ -1,36 +1,26 @@
-use Rattle.std.proofs.Common.{ℕ, ◌≡◌, ◌+◌, Bool, true, false, true≢false, Option, Some, None, refl, sym, ◌∙◌, ap, subst}
-use Rattle.ds_base.specs.Accesses.{MemoryMachine}
-use Rattle.arm_words.specs.declared.instructions.Instr.{Instr}
-use Rattle.arm_core.specs.Effects.{Meaning, carried_out}
-use Rattle.arm_core.specs.Exceptions.{interrupt_meaning}
-use Rattle.arm_core.specs.Registers.{RegisterState}
-use Rattle.arm_core.specs.Steps.{enters, fetched}
-use Rattle.arm_ops.specs.Meanings.{operation_meaning}
-use Rattle.arm_ops.specs.Operations.{is_other, operation_of}
-use Rattle.arm_ops.proofs.Laws.{operation_means}
-use Rattle.ds_map.specs.Waits.{waits_of}
-use Rattle.arm_ops.specs.declared.operations.Operation.{Operation}
-use Rattle.ds_machine.specs.DecodedSteps.{RunsAs, operation_outcome}
-use Rattle.ds_machine.specs.PrivateSides.{SideOf, side_step, side_taken, side_waits}
-use Rattle.ds_machine.specs.Sides.{data_accesses, data_waits, next_fetch, waits_of_step, taken}
+use Rattle.ds_machine.proofs.Words.{ℕ, ◌≡◌, ◌+◌, Bool, true, false, true≢false, Option, Some, None, refl, sym, ◌∙◌, ap, subst, MemoryMachine, Instr}
+use Rattle.ds_machine.proofs.Words.{Meaning, carried_out, interrupt_meaning, RegisterState, enters, fetched, operation_meaning, is_decoded}
+use Rattle.ds_machine.proofs.Words.{operation_of, operation_means, waits_of, Operation, operation_outcome, SideOf, side_taken, side_waits}
+use Rattle.ds_machine.proofs.Words.{data_accesses, data_waits, next_fetch, waits_of_step, taken}
+use Rattle.ds_machine.specs.DecodedSteps.{RunsAs}
 
 -- A step by what is entered and fetched.
 
 pub taken_entered : {S : Type 0} (memory : MemoryMachine S) (side : SideOf S) (line : Bool) (s : RegisterState) (state : S) → enters line s ≡ true
-    → side_taken memory side line s state ≡ carried_out memory side.arch s state (interrupt_meaning (side.base state) s)
+    → side_taken memory side line s state ≡ carried_out memory side.step.arch s state (interrupt_meaning (side.step.base state) s)
 unfolding taken
 taken_entered memory side line s state enter = rw enter refl
 
 pub taken_executed : {S : Type 0} (memory : MemoryMachine S) (side : SideOf S) (line : Bool) (s : RegisterState) (state : S) (number : ℕ) (instr : Option Instr)
-    → enters line s ≡ false → number ≡ (fetched memory side.arch s state).number → instr ≡ (fetched memory side.arch s state).instr
-    → side_taken memory side line s state ≡ side.executed s state number instr
+    → enters line s ≡ false → number ≡ (fetched memory side.step.arch s state).number → instr ≡ (fetched memory side.step.arch s state).instr
+    → side_taken memory side line s state ≡ side.step.executed s state number instr
 unfolding taken
 taken_executed memory side line s state number instr none n i = rw (none, n, i) refl
 
 pub taken_operation : {S : Type 0} (memory : MemoryMachine S) (side : SideOf S) (line : Bool) (s : RegisterState) (state : S) (operation : Operation) → RunsAs memory side s state operation
-    → enters line s ≡ false → operation ≡ operation_of (fetched memory side.arch s state).instr → side_taken memory side line s state ≡ operation_outcome memory side s state operation
+    → enters line s ≡ false → operation ≡ operation_of (fetched memory side.step.arch s state).instr → side_taken memory side line s state ≡ operation_outcome memory side s state operation
 taken_operation memory side line s state operation executes none is =
-    let f = fetched memory side.arch s state in taken_executed memory side line s state f.number f.instr none refl refl ∙ executes f.number f.instr is
+    let f = fetched memory side.step.arch s state in taken_executed memory side line s state f.number f.instr none refl refl ∙ executes f.number f.instr is
 
 -- ---- and how long it waits
 
@@ -40,19 +30,19 @@ unfolding waits_of_step
 waits_entered memory side line s state enter = rw enter refl
 
 pub waits_fetched : {S : Type 0} (memory : MemoryMachine S) (side : SideOf S) (line : Bool) (s : RegisterState) (state : S) → enters line s ≡ false
-    → side_waits memory side line s state ≡ side.wait state (next_fetch s) + data_waits memory (side_step side) s state
+    → side_waits memory side line s state ≡ side.step.wait state (next_fetch s) + data_waits memory side.step s state
 unfolding waits_of_step
 waits_fetched memory side line s state none = rw none refl
 
 -- what is decoded makes the accesses of its instruction
-pub decoded_waits : {S : Type 0} (memory : MemoryMachine S) (side : SideOf S) (s : RegisterState) (state : S) (operation : Operation) → is_other operation.op ≡ false
-    → operation ≡ operation_of (fetched memory side.arch s state).instr
-    → waits_of memory side.wait state (operation_meaning side.arch s operation).accesses ≡ data_waits memory (side_step side) s state
+pub decoded_waits : {S : Type 0} (memory : MemoryMachine S) (side : SideOf S) (s : RegisterState) (state : S) (operation : Operation) → is_decoded operation.op ≡ true
+    → operation ≡ operation_of (fetched memory side.step.arch s state).instr
+    → waits_of memory side.step.wait state (operation_meaning side.step.arch s operation).accesses ≡ data_waits memory side.step s state
 decoded_waits {S} memory side s state operation known is =
-    ap (λ (o : Operation). waits_of memory side.wait state (operation_meaning side.arch s o).accesses) is
-    ∙ by_instr (fetched memory side.arch s state).instr (subst (λ (o : Operation). is_other o.op ≡ false) is known) where
-      by_instr : (instr : Option Instr) → is_other (operation_of instr).op ≡ false
-          → waits_of memory side.wait state (operation_meaning side.arch s (operation_of instr)).accesses
-          ≡ waits_of memory side.wait state (data_accesses side.arch (side.base state) s instr)
-      by_instr None h = absurd (true≢false h)
-      by_instr (Some instr) h = ap (λ (m : Meaning). waits_of memory side.wait state m.accesses) (sym (operation_means side.arch (side.base state) s instr h))
+    ap (λ (o : Operation). waits_of memory side.step.wait state (operation_meaning side.step.arch s o).accesses) is
+    ∙ by_instr (fetched memory side.step.arch s state).instr (subst (λ (o : Operation). is_decoded o.op ≡ true) is known) where
+      by_instr : (instr : Option Instr) → is_decoded (operation_of instr).op ≡ true
+          → waits_of memory side.step.wait state (operation_meaning side.step.arch s (operation_of instr)).accesses
+          ≡ waits_of memory side.step.wait state (data_accesses side.step.arch (side.step.base state) s instr)
+      by_instr None h = absurd (true≢false (sym h))
+      by_instr (Some instr) h = ap (λ (m : Meaning). waits_of memory side.step.wait state m.accesses) (sym (operation_means side.step.arch (side.step.base state) s instr h))

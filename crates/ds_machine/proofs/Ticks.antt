@@ -1,13 +1,6 @@
-use Rattle.std.proofs.Common.{ℕ, ◌≡◌, ◌<◌, ◌≤◌, ◌+◌, ◌*◌, nat_le, max, if◌then◌else◌, Bool, true, false, Option, Some, None, ◌∙◌, ap, arith}
+use Rattle.ds_machine.proofs.Words.{ℕ, ◌≡◌, ◌<◌, ◌≤◌, ◌+◌, ◌*◌, nat_le, max, if◌then◌else◌, Bool, true, false, Option, Some, None, ◌∙◌, ap, arith}
+use Rattle.ds_machine.proofs.Words.{le-max_left, ticks_per_clock, Proc, Nine, Seven, Outcome, Tick, LastUnit, in_ticks, past_unit}
 use Rattle.std.proofs.Math.Nat.{mul-le-mul_left}
-use Rattle.std.proofs.Math.Nat.{le-max_left}
-use Rattle.ds_base.specs.Processors.{ticks_per_clock}
-use Rattle.ds_base.specs.declared.processors.Proc.{Proc}
-use Rattle.ds_base.specs.declared.processors.Proc.TheVariants.{Nine, Seven}
-use Rattle.arm_core.specs.Effects.{Outcome}
-use Rattle.ds_base.specs.declared.ticks.Tick.{Tick}
-use Rattle.ds_dma.specs.declared.channels.LastUnit.{LastUnit}
-use Rattle.ds_machine.specs.Steps.{in_ticks, past_unit}
 use Rattle.ds_machine.proofs.Commutes.{outcome_so}
 
 -- What a step costs in ticks.

@@ -1,33 +1,13 @@
-use Rattle.std.proofs.Common.{ℕ, ◌≡◌, ◌+◌, ◌-◌, ◌*◌, ◌/◌, ◌%◌, ◌^◌, ◌==◌, ◌&&◌, Bool, true, false, Option, Some, None, bit_and, bit_or, refl, sym, ◌∙◌, ap, subst, arith}
+use Rattle.ds_machine.proofs.Words.{ℕ, ◌≡◌, ◌+◌, ◌-◌, ◌*◌, ◌/◌, ◌%◌, ◌^◌, ◌==◌, Bool, true, false, Option, Some, None, bit_and, bit_or, refl, sym}
+use Rattle.ds_machine.proofs.Words.{◌∙◌, ap, subst, arith, and_or_apart, ◌||◌, not, and_false, equal, bit, bits, LeftOut, Stop, Proc, Nine, Seven}
+use Rattle.ds_machine.proofs.Words.{Tick, RegisterState, enters, Cost, Halted, Left, other_proc, map_after_unit, next_unit, unit_refusal, IsTold}
+use Rattle.ds_machine.proofs.Words.{IsUnchanged, ipc_bits, io_of, ProcessorIoState, MachineStep, Dma, Processor, IrqState, line_is_up, channel_step}
+use Rattle.ds_machine.proofs.Words.{moved_by, hears_nobody, Shown, step_by, MachineState, left_by, machine_concluded, map_of, with_map}
+use Rattle.std.proofs.Common.{◌&&◌}
 use Rattle.std.specs.Int.Bits.{and_block, and_zero_l}
-use Rattle.std.proofs.lemmas.Nat.{and_comm, and_mask, and_or_apart}
-use Rattle.std.specs.Prelude.{◌||◌, not}
-use Rattle.ds_base.proofs.Choices.{and_false, equal}
-use Rattle.ds_base.specs.Bits.{bit, bits}
-use Rattle.ds_base.specs.declared.left_out.LeftOut.{LeftOut}
-use Rattle.ds_base.specs.declared.left_out.Stop.{Stop}
-use Rattle.ds_base.specs.declared.processors.Proc.{Proc}
-use Rattle.ds_base.specs.declared.processors.Proc.TheVariants.{Nine, Seven}
-use Rattle.ds_base.specs.declared.ticks.Tick.{Tick}
-use Rattle.arm_core.specs.Registers.{RegisterState}
-use Rattle.arm_core.specs.Steps.{enters}
+use Rattle.std.proofs.lemmas.Nat.{and_comm, and_mask}
 use Rattle.arm_core.specs.declared.outcomes.Stepped as arm
-use Rattle.arm_core.specs.declared.outcomes.Stepped.TheVariants.{Cost, Halted, Left}
 use Rattle.ds_dma.specs.declared.channels.Unit.{Unit as DmaUnit}
-use Rattle.ds_ipc.specs.Ipcs.{other_proc}
-use Rattle.ds_map.specs.Moves.{map_after_unit, next_unit, unit_refusal}
-use Rattle.ds_ports.specs.Happenings.{IsTold, IsUnchanged, ipc_bits}
-use Rattle.ds_ports.specs.Io.{io_of}
-use Rattle.ds_ports.specs.ProcessorIo.{ProcessorIoState}
-use Rattle.ds_runs.specs.Runs.{MachineStep}
-use Rattle.ds_runs.specs.declared.actors.Actor.TheVariants.{Dma, Processor}
-use Rattle.ds_timers.specs.Irqs.{IrqState, line_is_up}
-use Rattle.ds_machine.specs.Channels.{channel_step, moved_by}
-use Rattle.ds_machine.specs.Private.{hears_nobody}
-use Rattle.ds_machine.specs.Reference.{Shown, step_by}
-use Rattle.ds_machine.specs.States.{MachineState}
-use Rattle.ds_machine.specs.Statuses.{left_by}
-use Rattle.ds_machine.specs.Steps.{machine_concluded, map_of, with_map}
 use Rattle.ds_machine.proofs.ChannelEvents.{read_left, unit_other, unit_told}
 use Rattle.ds_machine.proofs.MachineSchedule.{Steps, channel_timers, operation}
 use Rattle.ds_machine.proofs.ProcessorSteps.{came_by, goes, reached_by}

@@ -1,55 +1,29 @@
-use Rattle.std.proofs.Common.{ℕ, ◌≡◌, Bool, true, false, if◌then◌else◌, List, [], ◌∷◌, ◌++◌, Option, Some, None, refl, sym, ◌∙◌, ap}
-use Rattle.ds_base.specs.Accesses.{Access, Fetch, Read, Write}
+use Rattle.ds_machine.proofs.Words.{ℕ, ◌≡◌, Bool, true, false, if◌then◌else◌, List, [], ◌∷◌, ◌++◌, Option, Some, None, refl, sym, ◌∙◌, ap, Access}
+use Rattle.ds_machine.proofs.Words.{Fetch, Read, Write, aligned_down, KeyLine, LeftOut, Stop, Width, Proc, Nine, Seven, Tick, arm7, Outcome, fetched}
+use Rattle.ds_machine.proofs.Words.{Cost, Halted, Left, card_due, card_starter, MapState, next_unit, unit_moved, unit_refusal, unit_taken, IsSharedSo}
+use Rattle.ds_machine.proofs.Words.{SevenReach, seven_memory, place_of, Place, Banks, Cell, Nothing, Port, Rom, io_due, IoState, channels_triggered}
+use Rattle.ds_machine.proofs.Words.{both_raised, ProcessorIoState, MachineStep, Makes, Stops, KeyScript, Video, Timer, Divider, SquareRoot, Geometry}
+use Rattle.ds_machine.proofs.Words.{Card, Dma, Processor, scan_due, scan_due_tick, starts_vblank, VideoState, answer_unless, unless_stop}
+use Rattle.ds_machine.proofs.Words.{video_after_event, video_shown, video_stop, mixed_same, NineOwn, nine_own_of, with_nine_own, channel_step}
+use Rattle.ds_machine.proofs.Words.{moved_by, one_event, seven_wait, seven_side, side_taken, side_waits, Shown, after_line, shown_at, step_by}
+use Rattle.ds_machine.proofs.Words.{swapped_if, video_step, MachineState, left_by, line_of, machine_concluded, map_of, outcome_of, seven_reach}
+use Rattle.ds_machine.proofs.Words.{tick_of, with_io, with_map, with_seven, PartSet, RegistersNine, DueNine, StepsNine, RegistersSeven, DueSeven}
+use Rattle.ds_machine.proofs.Words.{StepsSeven, Cp15, OwnRam, CartFile, machine_graft, step_with, unchanged_by, untouched_by}
 use Rattle.ds_base.specs.Interrupts.{interrupt_bit}
-use Rattle.ds_base.specs.Numbers.{aligned_down}
 use Rattle.ds_base.specs.declared.interrupts.Interrupt.TheVariants.{Keys}
-use Rattle.ds_base.specs.declared.keys.KeyLine.{KeyLine}
-use Rattle.ds_base.specs.declared.left_out.LeftOut.{LeftOut}
-use Rattle.ds_base.specs.declared.left_out.Stop.{Stop}
-use Rattle.ds_base.specs.declared.memories.Width.{Width}
-use Rattle.ds_base.specs.declared.processors.Proc.{Proc}
-use Rattle.ds_base.specs.declared.processors.Proc.TheVariants.{Nine, Seven}
 use Rattle.ds_base.specs.declared.processors.Raised.{Raised}
-use Rattle.ds_base.specs.declared.ticks.Tick.{Tick}
 use Rattle.ds_base.proofs.Parted.{pick_same, same}
-use Rattle.arm7_exec.specs.Arm7.{arm7}
-use Rattle.arm_core.specs.Effects.{Outcome}
-use Rattle.arm_core.specs.Steps.{fetched}
 use Rattle.arm_core.specs.declared.outcomes.Stepped as arm
-use Rattle.arm_core.specs.declared.outcomes.Stepped.TheVariants.{Cost, Halted, Left}
-use Rattle.ds_card.specs.Cards.{card_due, card_starter}
 use Rattle.ds_dma.specs.declared.controls.Cause.TheVariants as causes
-use Rattle.ds_map.specs.Maps.{MapState}
-use Rattle.ds_map.specs.Moves.{next_unit, unit_moved, unit_refusal, unit_taken}
-use Rattle.ds_map.specs.Shares.{IsSharedSo}
-use Rattle.ds_map.specs.Views.{SevenReach, seven_memory}
 use Rattle.ds_map.proofs.Passed as passed
 use Rattle.ds_map.proofs.Passed.{IsPast, OfOthers, PlacePasses, fetch_passes, place_passes}
-use Rattle.ds_places.specs.AddressTables.{place_of}
-use Rattle.ds_places.specs.declared.kinds.Place.{Place}
-use Rattle.ds_places.specs.declared.kinds.Place.TheVariants.{Banks, Cell, Nothing, Port, Rom}
-use Rattle.ds_ports.specs.Dues.{io_due}
-use Rattle.ds_ports.specs.Io.{IoState, channels_triggered, both_raised}
-use Rattle.ds_ports.specs.ProcessorIo.{ProcessorIoState, keys_hold, processor_io_raised}
+use Rattle.ds_ports.specs.ProcessorIo.{keys_hold, processor_io_raised}
 use Rattle.ds_ports.specs.Touches.{UnitPart, beyond, io_graft, touches_none}
 use Rattle.ds_ports.proofs.Covered.{covers_all}
 use Rattle.ds_ports.proofs.Passed.{units}
-use Rattle.ds_runs.specs.Runs.{MachineStep, Makes, Stops}
 use Rattle.ds_runs.specs.declared.actors.Actor as actor
-use Rattle.ds_runs.specs.declared.actors.Actor.TheVariants.{KeyScript, Video, Timer, Divider, SquareRoot, Geometry, Card, Dma, Processor}
-use Rattle.video2d.specs.Scans.{scan_due, scan_due_tick, starts_vblank}
-use Rattle.video2d.specs.Videos.{VideoState, answer_unless, unless_stop, video_after_event, video_shown, video_stop}
 use Rattle.video2d.specs.declared.videos.Shown as display
-use Rattle.vram_banks.proofs.Mixes.{mixed_same}
-use Rattle.ds_machine.specs.Apart.{NineOwn, nine_own_of, with_nine_own}
-use Rattle.ds_machine.specs.Channels.{channel_step, moved_by, one_event}
-use Rattle.ds_map.specs.Waits.{seven_wait}
-use Rattle.ds_machine.specs.PrivateSides.{seven_side, side_taken, side_waits}
-use Rattle.ds_machine.specs.Reference.{Shown, after_line, shown_at, step_by, swapped_if, video_step}
-use Rattle.ds_machine.specs.States.{MachineState}
-use Rattle.ds_machine.specs.Statuses.{left_by}
-use Rattle.ds_machine.specs.Steps.{line_of, machine_concluded, map_of, outcome_of, seven_reach, tick_of, with_io, with_map, with_seven}
-use Rattle.ds_machine.specs.Touched.{ByteSet, EachTouches, EveryByte, GeometryDelays, IsAsLong, NoByte, PartSet, RegistersNine, DueNine, StepsNine, RegistersSeven, DueSeven, StepsSeven, Cp15, Itcm, Dtcm, OwnRam, MainRam, PaletteRam, OamRam, KeyLines, Events, CartFile, BytesWhere, bytes_from, machine_graft, seven_changes, seven_shows, step_with, unchanged_by, untouched_by}
+use Rattle.ds_machine.specs.Touched.{ByteSet, EachTouches, EveryByte, GeometryDelays, IsAsLong, NoByte, Itcm, Dtcm, MainRam, PaletteRam, OamRam, KeyLines, Events, BytesWhere, bytes_from, seven_changes, seven_shows}
 use Rattle.ds_machine.proofs.Commutes.{Commutes, step_waits_commute, taken_commutes, word_commutes}
 use Rattle.ds_machine.proofs.Ticks.{ticked, ticked_so}
 use Rattle.ds_machine.proofs.OwnShares.{given, given_to, is_shared_so, put_own_of, seven_channel, seven_steps}
@@ -307,7 +281,7 @@ module _ (t : MachineState) where
       let waits = side_waits seven_memory seven_side line old r in
       let taken = side_taken seven_memory seven_side line old r in
       let o = ticked Seven waits taken in
-      let f = fetched seven_memory seven_side.arch old r in
+      let f = fetched seven_memory seven_side.step.arch old r in
       ap (λ (x : Outcome SevenReach). (let step : Step = machine_concluded rank Seven (with_seven (beside s) x) x.stepped in step))
       (ticked_so Seven (side_waits seven_memory seven_side line old (reach_put r)) waits reach_put (side_taken seven_memory seven_side line old (reach_put r)) taken
       (step_waits_commute seven_memory Every reach_put units_commute seven_side line old r (λ r access rest i. waits_beside r access) (λ width. tt) refl (λ e. tt))

@@ -1,19 +1,8 @@
-use Rattle.std.specs.Prelude.{◌↔◌, []}
-use Rattle.std.proofs.Common.{ℕ, ◌≡◌, ◌<◌, ◌≤◌, inl, inr, List, Option, Some, refl, ◌∙◌, ap, subst, arith}
-use Rattle.ds_base.specs.declared.left_out.LeftOut.{LeftOut}
-use Rattle.ds_base.specs.declared.processors.Proc.{Proc}
-use Rattle.ds_base.specs.declared.ticks.Tick.{Tick}
-use Rattle.ds_runs.specs.Runs.{Ending, IsLeast, Makes, Runs, Stops}
-use Rattle.ds_machine.specs.Acting.{acting_dues}
-use Rattle.ds_machine.specs.Counting.{IsRunning}
-use Rattle.ds_machine.specs.Frames.{last_frame, last_lists}
-use Rattle.ds_machine.specs.Lagging.{CatchesUpFor}
-use Rattle.ds_machine.specs.Private.{rank_of}
-use Rattle.ds_machine.specs.Reference.{Shown, reference, reference_step}
-use Rattle.ds_machine.specs.Sound.{IsSound}
-use Rattle.ds_machine.specs.States.{MachineState, counts_of}
-use Rattle.ds_machine.specs.Steps.{processor_of, tick_of}
-use Rattle.ds_machine.specs.TurnSteps.{BelongsToTurn, MayAct, TakesSteps, more_steps, no_steps}
+use Rattle.ds_machine.proofs.Words.{◌↔◌, ℕ, ◌≡◌, ◌<◌, ◌≤◌, inl, inr, List, Option, Some, refl, ◌∙◌, ap, subst, arith, LeftOut, Proc, Tick, Ending}
+use Rattle.ds_machine.proofs.Words.{IsLeast, Makes, Runs, Stops, acting_dues, IsRunning, last_frame, last_lists, CatchesUpFor, rank_of, Shown}
+use Rattle.ds_machine.proofs.Words.{reference, reference_step, IsSound, MachineState, counts_of, processor_of, tick_of, BelongsToTurn, TakesSteps}
+use Rattle.ds_machine.proofs.Words.{more_steps, no_steps, MayAct}
+use Rattle.std.specs.Prelude.{[]}
 use Rattle.ds_machine.proofs.ActingDues.{acting_processor}
 use Rattle.ds_machine.proofs.ActingSteps.{Acted, ActedStops, acted_keeps, acting_runs}
 use Rattle.ds_machine.proofs.DueTicks.{own_tick}

@@ -1,31 +1,15 @@
-use Rattle.std.proofs.Common.{ℕ, ◌≡◌, ◌≤◌, ◌+◌, Bool, true, false, List, Option, refl, sym, ◌∙◌, ap, subst, arith, []}
-use Rattle.ds_base.specs.declared.left_out.LeftOut.{LeftOut}
-use Rattle.ds_base.specs.declared.processors.Proc.{Proc}
-use Rattle.ds_base.specs.declared.processors.Proc.TheVariants.{Nine, Seven}
-use Rattle.ds_base.specs.declared.ticks.Tick.{Tick}
+use Rattle.ds_machine.proofs.Words.{ℕ, ◌≡◌, ◌≤◌, ◌+◌, Bool, true, false, List, Option, refl, sym, ◌∙◌, ap, subst, arith, [], LeftOut, Proc, Nine}
+use Rattle.ds_machine.proofs.Words.{Seven, Tick, Cost, Halted, Left, next_unit, IoState, video_done, MachineStep, Makes, Video, Timer, Geometry, Dma}
+use Rattle.ds_machine.proofs.Words.{Processor, same_makes, GxState, channel_step, run_of, Shown, after_geometry, after_video, step_by, swapped_if}
+use Rattle.ds_machine.proofs.Words.{MachineState, left_by, gone_by, machine_graft, unchanged_by, scan_due_tick, starts_vblank}
 use Rattle.arm_core.specs.declared.outcomes.Stepped as arm
-use Rattle.arm_core.specs.declared.outcomes.Stepped.TheVariants.{Cost, Halted, Left}
-use Rattle.ds_map.specs.Moves.{next_unit}
-use Rattle.ds_ports.specs.Io.{IoState, video_done}
-use Rattle.ds_runs.specs.Runs.{MachineStep, Makes}
 use Rattle.ds_runs.specs.declared.actors.Actor as actor
-use Rattle.ds_runs.specs.declared.actors.Actor.TheVariants.{Video, Timer, Geometry, Dma, Processor}
-use Rattle.ds_runs.proofs.RunLaws.{same_makes}
-use Rattle.gx_fifo.specs.GxStates.{GxState}
 use Rattle.gx_fifo.proofs.Laws.{finished_run, swapped_run}
-use Rattle.ds_machine.specs.Channels.{channel_step}
-use Rattle.ds_machine.specs.Counting.{run_of}
-use Rattle.ds_machine.specs.Reference.{Shown, after_geometry, after_video, step_by, swapped_if}
-use Rattle.ds_machine.specs.States.{MachineState}
-use Rattle.ds_machine.specs.Statuses.{left_by}
-use Rattle.ds_machine.specs.Steps.{gone_by}
-use Rattle.ds_machine.specs.Touched.{machine_graft, unchanged_by}
 use Rattle.ds_machine.proofs.ChannelEvents.{channel_made, unit_run}
 use Rattle.ds_machine.proofs.MachineSchedule.{Steps, channel_timers, operation}
 use Rattle.ds_machine.proofs.ProcessorSteps.{came_by, concludes, costs_some, goes, reached_by, step_is}
 use Rattle.ds_machine.proofs.Touched.{each_touches}
 use Rattle.ds_machine.proofs.VideoEvents.{done_gx, video_makes}
-use Rattle.video2d.specs.Scans.{scan_due_tick, starts_vblank}
 
 -- How many vertices the current run has: geometry adds one at most in a step.
 

@@ -1,25 +1,13 @@
-use Rattle.std.proofs.Common.{ℕ, ◌≡◌, ◌&&◌, Bool, true, false, if◌then◌else◌, List, [], ◌∷◌, Option, Some, None, Result, Ok, Err, refl, sym, ◌∙◌, ap, arith}
-use Rattle.ds_base.specs.declared.left_out.LeftOut.{LeftOut}
-use Rattle.ds_base.specs.declared.left_out.Stop.{Stop}
-use Rattle.ds_base.specs.declared.processors.Proc.{Proc}
-use Rattle.ds_base.specs.declared.processors.Proc.TheVariants.{Nine, Seven}
-use Rattle.ds_base.specs.declared.ticks.Tick.{Tick}
-use Rattle.ds_dma.specs.declared.controls.Cause.TheVariants.{HBlank, VBlank}
-use Rattle.ds_ports.specs.Io.{IoState, both_raised, channels_triggered, shown_to_others, video_done}
-use Rattle.gx_fifo.specs.GxStates.{GxState}
+use Rattle.ds_machine.proofs.Words.{ℕ, ◌≡◌, Bool, true, false, if◌then◌else◌, List, [], ◌∷◌, Option, Some, None, Result, Ok, Err, refl, sym, ◌∙◌, ap}
+use Rattle.ds_machine.proofs.Words.{arith, LeftOut, Stop, Proc, Nine, Seven, Tick, HBlank, VBlank, IoState, both_raised, channels_triggered}
+use Rattle.ds_machine.proofs.Words.{shown_to_others, video_done, GxState, MachineStep, Makes, Stops, Video, same_makes, same_stops, not_both}
+use Rattle.ds_machine.proofs.Words.{one_event, stopped_at, Shown, after_video, awake, display_done, shown_at, step_by, swapped_if, video_step}
+use Rattle.ds_machine.proofs.Words.{stepped_of, MachineState, ended, goes_on, machine_settled, wakes, with_io, woken_one, scan_due, scan_due_tick}
+use Rattle.ds_machine.proofs.Words.{starts_vblank, VideoState, answer_unless, unless_stop, video_after_event, video_answer, video_shown, video_stop}
+use Rattle.std.proofs.Common.{◌&&◌}
 use Rattle.ds_ports.proofs.Shows.{stop_stays}
-use Rattle.ds_runs.specs.Runs.{MachineStep, Makes, Stops}
-use Rattle.ds_runs.specs.declared.actors.Actor.TheVariants.{Video}
-use Rattle.ds_runs.proofs.RunLaws.{same_makes, same_stops, not_both}
-use Rattle.ds_machine.specs.Channels.{one_event, stopped_at}
-use Rattle.ds_machine.specs.Reference.{Shown, after_video, awake, display_done, shown_at, step_by, swapped_if, video_step}
-use Rattle.ds_machine.specs.StepAnswers.{stepped_of}
-use Rattle.ds_machine.specs.States.{MachineState}
-use Rattle.ds_machine.specs.Steps.{ended, goes_on, machine_settled, wakes, with_io, woken_one}
 use Rattle.ds_machine.specs.declared.answers.Done.TheVariants as answers
 use Rattle.ds_machine.proofs.Wakes.{settle_leaves}
-use Rattle.video2d.specs.Scans.{scan_due, scan_due_tick, starts_vblank}
-use Rattle.video2d.specs.Videos.{VideoState, answer_unless, unless_stop, video_after_event, video_answer, video_shown, video_stop}
 use Rattle.video2d.specs.declared.videos.Shown as display
 
 -- The display's event.

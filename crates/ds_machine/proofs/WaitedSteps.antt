@@ -1,34 +1,12 @@
-use Rattle.std.proofs.Common.{ℕ, zero, suc, ◌≡◌, ◌<◌, ◌≤◌, ◌+◌, ◌%◌, ◌^◌, if◌then◌else◌, Bool, true, false, List, [], ◌∷◌, length, Option, Some, None, refl, sym, ◌∙◌, ap, arith}
-use Rattle.std.proofs.lemmas.Option.{none-some}
-use Rattle.ds_base.specs.Accesses.{Access, Fetch, MemoryMachine, Performed, Read, Write, perform}
-use Rattle.ds_base.specs.declared.left_out.Stop.{Stop}
-use Rattle.ds_base.specs.declared.processors.Arch.{Arch}
-use Rattle.ds_base.specs.declared.processors.Arch.TheVariants.{V4, V5}
-use Rattle.arm_words.specs.Parts.{condition_of}
-use Rattle.arm_words.specs.declared.instructions.Instr.{Instr}
-use Rattle.arm_words.specs.declared.instructions.Instr.TheVariants.{Coprocessor, Swi, ThumbSwi}
-use Rattle.arm_core.specs.Conditions.{holds}
-use Rattle.arm_core.specs.Effects.{Meaning, Outcome, carried_out, concluded}
-use Rattle.arm_core.specs.Exceptions.{undefined_meaning}
-use Rattle.arm_core.specs.Meanings.{act, condition, meaning, skipped}
-use Rattle.arm_core.specs.Registers.{RegisterState}
-use Rattle.arm_core.specs.Steps.{Setting, executed_unless, executed_word, stop_of, swi_stop}
-use Rattle.arm_core.specs.Thumb.{equivalent}
-use Rattle.arm_ops.specs.Meanings.{RefusesNoneInRam, operation_meaning}
-use Rattle.arm_ops.specs.declared.operations.Operation.{Operation}
-use Rattle.arm7_exec.specs.Arm7.{arm7}
-use Rattle.arm9_exec.specs.Arm9.{arm9}
-use Rattle.arm9_exec.specs.Coprocessors.{move_of}
-use Rattle.arm9_exec.specs.declared.coprocessors.Moved.{Moved}
-use Rattle.cp15_tcm.specs.Registers.{vectors_of}
-use Rattle.ds_map.specs.Guards.{guarded_memory}
-use Rattle.ds_map.specs.Views.{NineReach, SevenReach, nine_memory, seven_memory}
-use Rattle.ds_map.specs.Waits.{Waited, nine_wait, seven_wait, unless_refused, waiting, waits_of}
-use Rattle.ds_map.proofs.Guards.{nine_refusal, nine_written}
-use Rattle.ds_map.proofs.Waiting.{nine_most, performed_so, performed_waited, seven_most, waited_so, waits_most}
-use Rattle.ds_machine.specs.GuardedSteps.{IsFree}
-use Rattle.ds_machine.specs.Rooms.{FindsRoom}
-use Rattle.ds_machine.specs.Sides.{data_accesses, nine_executed}
+use Rattle.ds_machine.proofs.Words.{ℕ, zero, suc, ◌≡◌, ◌<◌, ◌≤◌, ◌+◌, ◌%◌, ◌^◌, if◌then◌else◌, Bool, true, false, List, [], ◌∷◌, length, Option, Some}
+use Rattle.ds_machine.proofs.Words.{None, refl, sym, ◌∙◌, ap, arith, none-some, Access, Fetch, MemoryMachine, Performed, Read, Write, perform, Stop}
+use Rattle.ds_machine.proofs.Words.{Arch, V4, V5, condition_of, Instr, Coprocessor, Swi, ThumbSwi, holds, Meaning, Outcome, carried_out, concluded}
+use Rattle.ds_machine.proofs.Words.{undefined_meaning, act, condition, meaning, skipped, RegisterState, Setting, executed_unless, executed_word}
+use Rattle.ds_machine.proofs.Words.{stop_of, swi_stop, equivalent, RefusesNoneInRam, operation_meaning, Operation, arm7, arm9, move_of, Moved}
+use Rattle.ds_machine.proofs.Words.{vectors_of, guarded_memory, NineReach, SevenReach, nine_memory, seven_memory, Waited, nine_wait, seven_wait}
+use Rattle.ds_machine.proofs.Words.{unless_refused, waiting, waits_of, nine_refusal, nine_written, nine_most, seven_most, waited_so, IsFree}
+use Rattle.ds_machine.proofs.Words.{FindsRoom, data_accesses, nine_executed}
+use Rattle.ds_map.proofs.Waiting.{performed_so, performed_waited, waits_most}
 use Rattle.ds_machine.proofs.FewAccesses.{instructions_are_short, operations_are_short}
 use Rattle.ds_machine.proofs.GuardedSteps.{guarded_refuses_none, same_executed, same_operation, unguarded}
 use Rattle.ds_machine.proofs.RamAccesses.{seven_refuses_none}

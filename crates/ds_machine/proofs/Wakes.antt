@@ -1,26 +1,16 @@
-use Rattle.std.specs.Prelude.{◌&&◌}
-use Rattle.std.proofs.Common.{◌≡◌, ◌+◌, inl, inr, Bool, true, false, if◌then◌else◌, refl, sym, ◌∙◌, ap, subst, arith}
-use Rattle.ds_base.specs.KeyLines.{AreKeyLines}
-use Rattle.ds_base.specs.Schedules.{Reschedules}
-use Rattle.ds_base.specs.declared.processors.Proc.{Proc}
-use Rattle.ds_base.specs.declared.processors.Proc.TheVariants.{Nine, Seven}
-use Rattle.ds_base.specs.declared.ticks.Tick.{Tick}
-use Rattle.ds_ipc.specs.Ipcs.{other_proc}
-use Rattle.ds_ports.specs.Happenings.{IsIo, IsProcessorIo, ReschedulesEach}
-use Rattle.ds_dma.specs.States.{DmaState, awaits_geometry, dma_due}
+use Rattle.ds_machine.proofs.Words.{◌&&◌, ◌≡◌, ◌+◌, inl, inr, Bool, true, false, if◌then◌else◌, refl, sym, ◌∙◌, ap, subst, arith, AreKeyLines}
+use Rattle.ds_machine.proofs.Words.{Reschedules, Proc, Nine, Seven, Tick, other_proc, IsIo, IsProcessorIo, ReschedulesEach, DmaState, awaits_geometry}
+use Rattle.ds_machine.proofs.Words.{dma_due, awaits_none, ProcessorIoState, processor_io_triggered, IoState, io_of, is_settled, level_told}
+use Rattle.ds_machine.proofs.Words.{release_by, release_kept, release_of, settled, due_unless, keys_due, processor_due, AreAsleep, HasSoundParts}
+use Rattle.ds_machine.proofs.Words.{MachineState, ProcessorState, counts_of, due_past_unit, ended, goes_on, is_blocked, is_halted, machine_settled}
+use Rattle.ds_machine.proofs.Words.{processor_of, wakes, with_halt, with_processor, woken, woken_one, AreWaiting, is_half_empty, is_stalled, of_both}
+use Rattle.ds_machine.proofs.Words.{processor_io_is, io_is, happens_held}
 use Rattle.ds_dma.specs.declared.controls.Cause.TheVariants as causes
-use Rattle.ds_dma.proofs.Wholes.{awaits_none}
-use Rattle.ds_ports.specs.ProcessorIo.{ProcessorIoState, processor_io_triggered}
-use Rattle.ds_ports.specs.Io.{IoState, io_of, is_settled, level_told, release_by, release_kept, release_of, settled, with_halted}
-use Rattle.ds_machine.specs.Reference.{due_unless, keys_due, processor_due}
-use Rattle.ds_machine.specs.Sound.{AreAsleep, HasSoundParts}
-use Rattle.ds_machine.specs.States.{MachineState, ProcessorState, counts_of}
+use Rattle.ds_ports.specs.Io.{with_halted}
 use Rattle.ds_machine.proofs.Ticks.{after_unit}
-use Rattle.ds_machine.specs.Steps.{due_past_unit, ended, goes_on, is_blocked, is_halted, machine_settled, processor_of, wakes, with_halt, with_processor, woken, woken_one}
-use Rattle.gx_fifo.specs.GxStates.{AreWaiting, is_half_empty, is_stalled}
 use Rattle.ds_machine.proofs.Moves.{Moves, blocked_moves, later_unless, moves_of, then_all}
-use Rattle.ds_ports.proofs.Later.{each_processor_io, of_both, processor_io_each, processor_io_is, same_reschedules, io_is}
-use Rattle.ds_ports.proofs.Settles.{happens_held, settled_happens, settles}
+use Rattle.ds_ports.proofs.Later.{each_processor_io, processor_io_each, same_reschedules}
+use Rattle.ds_ports.proofs.Settles.{settled_happens, settles}
 
 -- Processors that are put into the machine with other numbers, that are halted, and that wake.
 

@@ -1,29 +1,15 @@
-use Rattle.std.proofs.Common.{ℕ, zero, suc, ◌≡◌, ◌<◌, ◌≤◌, List, Option, Some, None, refl, sym, ◌∙◌, ap, subst, arith}
-use Rattle.ds_base.specs.declared.left_out.LeftOut.{LeftOut}
-use Rattle.ds_base.specs.declared.processors.Proc.{Proc}
-use Rattle.ds_base.specs.declared.processors.Proc.TheVariants.{Nine, Seven}
-use Rattle.ds_base.specs.declared.ticks.Tick.{Tick}
-use Rattle.ds_card.specs.Cards.{card_due}
-use Rattle.ds_card.specs.Transfers.{CardPasses}
-use Rattle.ds_dma.specs.States.{channel_at, dma_at_boot, last_tick}
-use Rattle.ds_ports.specs.Io.{IoState, io_at_boot, io_of}
-use Rattle.ds_ports.specs.Within.{AreWithinTick, IsBy, IsPastBy, IsSoonBy, OwnIsWithinTick}
-use Rattle.ds_ports.proofs.Later.{processor_io_is}
-use Rattle.ds_runs.specs.Actors.{actor_of}
-use Rattle.ds_runs.specs.Runs.{At, Ending, IsLeast, MachineStep, Makes, Runs, over, stops, more}
+use Rattle.ds_machine.proofs.Words.{ℕ, zero, suc, ◌≡◌, ◌<◌, ◌≤◌, List, Option, Some, None, refl, sym, ◌∙◌, ap, subst, arith, LeftOut, Proc, Nine}
+use Rattle.ds_machine.proofs.Words.{Seven, Tick, card_due, CardPasses, channel_at, last_tick, IoState, io_at_boot, io_of, IsBy, IsPastBy, IsSoonBy}
+use Rattle.ds_machine.proofs.Words.{processor_io_is, actor_of, At, Ending, IsLeast, MachineStep, Makes, Runs, over, stops, more, KeyScript, Geometry}
+use Rattle.ds_machine.proofs.Words.{timer_at, numbers_at_boot, scans_follow, HasShortRun, run_of, Shown, dues_of, reference, reference_step, step_by}
+use Rattle.ds_machine.proofs.Words.{HasSoundParts, MachineState, left_by, HasItsTransfer, IsWithinTick, GxState}
+use Rattle.ds_dma.specs.States.{dma_at_boot}
+use Rattle.ds_ports.specs.WithinLaws.{AreWithinTick, OwnIsWithinTick}
 use Rattle.ds_runs.specs.Runs as runs
 use Rattle.ds_runs.specs.declared.actors.Actor as actor
-use Rattle.ds_runs.specs.declared.actors.Actor.TheVariants.{KeyScript, Geometry}
-use Rattle.ds_timers.specs.Timing.{timer_at, timers_at_boot}
-use Rattle.gx_geometry.specs.Numbers.{numbers_at_boot}
-use Rattle.video2d.proofs.SavedScans.{scans_follow}
+use Rattle.ds_timers.specs.Timing.{timers_at_boot}
 use Rattle.video2d.proofs.VideoLaws.{stays_video}
-use Rattle.ds_machine.specs.Counting.{HasShortRun, run_of}
-use Rattle.ds_machine.specs.Reference.{Shown, dues_of, reference, reference_step, step_by}
-use Rattle.ds_machine.specs.Sound.{HasSoundParts}
-use Rattle.ds_machine.specs.States.{MachineState}
-use Rattle.ds_machine.specs.Statuses.{left_by}
-use Rattle.ds_machine.specs.Within.{BootsWithinTick, HasItsTransfer, IsWithinTick, RunsStayWithinTick, TicksRise}
+use Rattle.ds_machine.specs.WithinLaws.{BootsWithinTick, RunsStayWithinTick, TicksRise}
 use Rattle.ds_machine.proofs.Booting.{booted_due}
 use Rattle.ds_machine.proofs.CardSteps.{steps_pass_card}
 use Rattle.ds_machine.proofs.Files.{steps_keep_file}
@@ -34,7 +20,6 @@ use Rattle.ds_machine.proofs.VertexRuns.{made_run}
 use Rattle.ds_machine.proofs.VideoEvents.{ended_leaves}
 use Rattle.ds_machine.proofs.WithinCard.{passes_stays}
 use Rattle.ds_machine.proofs.WithinSteps.{StepStays, ended_stays, made_stays}
-use Rattle.gx_fifo.specs.GxStates.{GxState}
 
 -- Wherever a run to a tick ends, the machine is within that tick.
 

@@ -1,42 +1,14 @@
-use Rattle.std.proofs.Common.{ℕ, ◌<◌, ◌≤◌, true, false, Option, Some, None, refl, sym, subst}
-use Rattle.std.specs.Prelude.{◌&&◌, IsSome}
-use Rattle.ds_base.proofs.Choices.{either}
-use Rattle.ds_base.specs.Numbers.{aligned_down}
-use Rattle.ds_base.specs.declared.left_out.Stop.{Stop}
-use Rattle.ds_base.specs.declared.memories.Memory.TheVariants.{Vram}
-use Rattle.ds_base.specs.declared.memories.Width.{Width}
-use Rattle.ds_base.specs.declared.processors.Proc.{Proc}
-use Rattle.ds_base.specs.declared.processors.Proc.TheVariants.{Nine, Seven}
-use Rattle.ds_base.specs.declared.ticks.Tick.{Tick}
-use Rattle.arm_core.specs.Registers.{RegisterState}
-use Rattle.arm_words.specs.declared.instructions.Instr.{Instr}
-use Rattle.arm7_exec.specs.Arm7.{arm7}
-use Rattle.arm9_exec.specs.Arm9.{arm9}
-use Rattle.arm9_exec.specs.Coprocessors.{move_of}
-use Rattle.arm9_exec.specs.declared.coprocessors.Moved.{Moved}
-use Rattle.cp15_tcm.specs.TightlyCoupled.{tcm_of}
-use Rattle.cp15_tcm.specs.declared.answers.Tcm.{Tcm}
-use Rattle.cp15_tcm.specs.declared.answers.Tcm.TheVariants.{Itcm, Dtcm, Past}
-use Rattle.ds_dma.specs.States.{DmaState, dma_due}
+use Rattle.ds_machine.proofs.Words.{ℕ, ◌<◌, ◌≤◌, true, false, Option, Some, None, refl, sym, subst, ◌&&◌, IsSome, either, aligned_down, Stop, Vram}
+use Rattle.ds_machine.proofs.Words.{Width, Proc, Nine, Seven, Tick, RegisterState, Instr, arm7, arm9, move_of, Moved, tcm_of, Tcm, Itcm, Dtcm, Past}
+use Rattle.ds_machine.proofs.Words.{DmaState, dma_due, after_read_at, is_byte_of_nine, map_read, map_value, map_written, takes_no_bytes, written_at}
+use Rattle.ds_machine.proofs.Words.{MapState, map_after_unit, unit_read, unit_taken, unit_waits, NineReach, SevenReach, nine_memory, seven_memory}
+use Rattle.ds_machine.proofs.Words.{tcm_read, tcm_written, unit_waits_most, place_of, Place, IoState, io_of, port_refusal, port_written}
+use Rattle.ds_machine.proofs.Words.{unless_stopped, Stays, map_read_leaves, vram_written, nine_side, seven_side, nine_executed, MachineState, line_of}
+use Rattle.ds_machine.proofs.Words.{nine_reach, outcome_of, seven_reach}
 use Rattle.ds_dma.specs.declared.channels.Unit.{Unit as DmaUnit}
-use Rattle.ds_map.specs.Accesses.{after_read_at, is_byte_of_nine, map_read, map_value, map_written, takes_no_bytes, written_at}
-use Rattle.ds_map.specs.Maps.{MapState}
-use Rattle.ds_map.specs.Moves.{map_after_unit, unit_read, unit_taken, unit_waits}
-use Rattle.ds_map.specs.Views.{NineReach, SevenReach, nine_memory, seven_memory, tcm_read, tcm_written}
-use Rattle.ds_map.proofs.Waiting.{unit_waits_most}
-use Rattle.ds_places.specs.AddressTables.{place_of}
-use Rattle.ds_places.specs.declared.kinds.Place.{Place}
 use Rattle.ds_places.specs.declared.kinds.Place.TheVariants as place
-use Rattle.ds_ports.specs.Io.{IoState, io_of}
-use Rattle.ds_ports.specs.Ports.{port_refusal, port_written, unless_stopped}
 use Rattle.ds_ports.proofs.WithinEvents.{move_stays}
-use Rattle.ds_ports.proofs.WithinPorts.{Stays, beside_all, read_stays, write_stays}
-use Rattle.ds_map.proofs.Later.{map_read_leaves}
-use Rattle.vram_banks.specs.Cells.{vram_written}
-use Rattle.ds_machine.specs.PrivateSides.{nine_side, seven_side}
-use Rattle.ds_machine.specs.Sides.{nine_executed}
-use Rattle.ds_machine.specs.States.{MachineState}
-use Rattle.ds_machine.specs.Steps.{line_of, nine_reach, outcome_of, seven_reach}
+use Rattle.ds_ports.proofs.WithinPorts.{beside_all, read_stays, write_stays}
 use Rattle.ds_machine.proofs.Keeps.{Follows, taken_follows, word_follows}
 
 -- What a processor's step, or a unit of DMA, makes of the units below a limit keeps them within it.

@@ -1,19 +1,12 @@
-use Rattle.std.proofs.Common.{ℕ, zero, suc, ◌≡◌, ◌⊎◌, ◌<◌, inl, inr, List, Option, Some, None, refl, sym, ap, subst, arith}
-use Rattle.std.specs.Prelude.{is_some, IfSome}
-use Rattle.ds_base.proofs.Choices.{either}
-use Rattle.ds_base.specs.Numbers.{aligned_down}
-use Rattle.ds_base.specs.declared.processors.Proc.{Proc}
-use Rattle.ds_base.specs.declared.processors.Proc.TheVariants.{Nine, Seven}
-use Rattle.ds_base.specs.declared.ticks.Tick.{Tick}
+use Rattle.ds_machine.proofs.Words.{ℕ, zero, suc, ◌≡◌, ◌⊎◌, ◌<◌, inl, inr, List, Option, Some, None, refl, sym, ap, subst, arith, is_some, IfSome}
+use Rattle.ds_machine.proofs.Words.{either, aligned_down, Proc, Nine, Seven, Tick, CardState, start_refusal, CardHappens, CardPasses, came, was_read}
+use Rattle.ds_machine.proofs.Words.{wrote, passed_none, passed_one, HasItsTransfer}
 use Rattle.ds_card.specs.CardPorts.{block_words}
-use Rattle.ds_card.specs.Cards.{CardState, card_taken, card_word, is_starting, ports_written, ready_word, start_refusal, transfer_begun}
+use Rattle.ds_card.specs.Cards.{card_taken, card_word, is_starting, ports_written, ready_word, transfer_begun}
 use Rattle.ds_card.specs.Saved.{HasItsWord}
-use Rattle.ds_card.specs.Transfers.{CardHappens, CardPasses}
-use Rattle.ds_card.specs.Transfers.CardHappens.{came, was_read, wrote}
-use Rattle.ds_card.specs.Transfers.CardPasses.{passed_none, passed_one}
 use Rattle.ds_card.specs.declared.cards.Transfer.{Transfer}
 use Rattle.ds_card.proofs.InOrder.{Stands, StandsIn, one_follows}
-use Rattle.ds_machine.specs.Within.{HasItsTransfer, HasWordsLeft}
+use Rattle.ds_machine.specs.WithinLaws.{HasWordsLeft}
 
 -- Whatever happens to a card, a word of its transfer that is ready stays the file's.
 

@@ -1,26 +1,11 @@
-use Rattle.std.proofs.Common.{ℕ, ◌≡◌, ◌<◌, ◌≤◌, ◌+◌, nat_lt, Bool, true, false, if◌then◌else◌, List, [], ◌∷◌, Some, refl, sym, ◌∙◌, ap, arith}
-use Rattle.std.proofs.lemmas.Option.{same_Some}
-use Rattle.ds_base.proofs.Choices.{if_false, if_true}
-use Rattle.ds_base.specs.KeyLines.{AreKeyLines}
-use Rattle.ds_base.specs.declared.keys.KeyLine.{KeyLine}
-use Rattle.ds_base.specs.declared.left_out.LeftOut.{LeftOut}
-use Rattle.ds_base.specs.declared.processors.Proc.{Proc}
-use Rattle.ds_base.specs.declared.processors.Proc.TheVariants.{Nine, Seven}
-use Rattle.ds_base.specs.declared.ticks.Tick.{Tick}
-use Rattle.ds_runs.proofs.RunLaws.{same_makes}
-use Rattle.ds_runs.specs.Actors.{actor_of}
-use Rattle.ds_runs.specs.Runs.{At, Ending, MachineStep, Makes, Runs, over, stops, more}
+use Rattle.ds_machine.proofs.Words.{ℕ, ◌≡◌, ◌<◌, ◌≤◌, ◌+◌, nat_lt, Bool, true, false, if◌then◌else◌, List, [], ◌∷◌, Some, refl, sym, ◌∙◌, ap, arith}
+use Rattle.ds_machine.proofs.Words.{same_Some, if_false, if_true, AreKeyLines, KeyLine, LeftOut, Proc, Nine, Seven, Tick, same_makes, actor_of, At}
+use Rattle.ds_machine.proofs.Words.{Ending, MachineStep, Makes, Runs, over, stops, more, KeyScript, Timer, Dma, Processor, Shown, after_line}
+use Rattle.ds_machine.proofs.Words.{keys_due, reference, reference_step, step_by, script_from, HasSoundParts, MachineState, left_by, ended, goes_on}
+use Rattle.ds_machine.proofs.Words.{machine_settled, wakes, woken_one, machine_graft, unchanged_by}
 use Rattle.ds_runs.specs.Runs as runs
 use Rattle.ds_runs.specs.declared.actors.Actor as actor
-use Rattle.ds_runs.specs.declared.actors.Actor.TheVariants.{KeyScript, Timer, Dma, Processor}
-use Rattle.ds_machine.specs.Reference.{Shown, after_line, keys_due, reference, reference_step, step_by}
-use Rattle.ds_machine.specs.Saved.{script_from}
-use Rattle.ds_machine.specs.Sound.{HasSoundParts}
-use Rattle.ds_machine.specs.States.{MachineState}
-use Rattle.ds_machine.specs.Statuses.{left_by}
-use Rattle.ds_machine.specs.Steps.{ended, goes_on, machine_settled, wakes, woken_one}
-use Rattle.ds_machine.specs.Touched.{machine_graft, unchanged_by}
-use Rattle.ds_machine.specs.Within.{RunsKeepScript}
+use Rattle.ds_machine.specs.WithinLaws.{RunsKeepScript}
 use Rattle.ds_machine.proofs.DueTicks.{due_of_rank}
 use Rattle.ds_machine.proofs.MachineSchedule.{Steps, owes_as, step_made_as, steps_here}
 use Rattle.ds_machine.proofs.Touched.{each_touches}

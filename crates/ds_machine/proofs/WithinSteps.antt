@@ -1,36 +1,17 @@
-use Rattle.std.proofs.Common.{ℕ, ◌≡◌, ◌<◌, ◌≤◌, ◌+◌, ◌==◌, ◌^◌, nat_le, max, Bool, true, false, if◌then◌else◌, List, [], ◌∷◌, Option, Some, None, refl, sym, ◌∙◌, ap, subst, arith}
-use Rattle.std.specs.Prelude.{◌&&◌, not}
-use Rattle.std.proofs.Math.Nat.{le-max_right}
-use Rattle.std.proofs.lemmas.Option.{none-some, same_Some}
-use Rattle.ds_base.proofs.Choices.{either}
-use Rattle.ds_base.specs.declared.keys.KeyLine.{KeyLine}
-use Rattle.ds_base.specs.declared.processors.Proc.{Proc}
-use Rattle.ds_base.specs.declared.processors.Proc.TheVariants.{Nine, Seven}
-use Rattle.ds_base.specs.declared.ticks.Tick.{Tick}
+use Rattle.ds_machine.proofs.Words.{ℕ, ◌≡◌, ◌<◌, ◌≤◌, ◌+◌, ◌==◌, ◌^◌, nat_le, max, Bool, true, false, if◌then◌else◌, List, [], ◌∷◌, Option, Some}
+use Rattle.ds_machine.proofs.Words.{None, refl, sym, ◌∙◌, ap, subst, arith, ◌&&◌, not, le-max_right, none-some, same_Some, either, KeyLine, Proc}
+use Rattle.ds_machine.proofs.Words.{Nine, Seven, Tick, Cost, Halted, Left, ready_by, DmaState, channel_at, channel_due, last_tick, least_running}
+use Rattle.ds_machine.proofs.Words.{LastUnit, other_proc, map_after_unit, next_unit, held_due, io_due, IoState, io_of, stall_ends, tick_after}
+use Rattle.ds_machine.proofs.Words.{video_done, IsPastBy, of_both, Stays, same_makes, Makes, KeyScript, Video, Geometry, Dma, Processor, is_stalled}
+use Rattle.ds_machine.proofs.Words.{scan_due, scan_due_tick, starts_vblank, video_stop, channel_step, one_event, past_tick, Shown, after_event}
+use Rattle.ds_machine.proofs.Words.{after_geometry, after_line, after_video, step_by, swapped_if, MachineState, ProcessorState, due_past_unit, ended}
+use Rattle.ds_machine.proofs.Words.{gone_by, goes_on, is_blocked, is_halted, machine_settled, map_of, past_unit, processor_of, tick_of, wakes}
+use Rattle.ds_machine.proofs.Words.{with_map, with_processor, woken_one}
 use Rattle.arm_core.specs.declared.outcomes.Stepped as arm
-use Rattle.arm_core.specs.declared.outcomes.Stepped.TheVariants.{Cost, Halted, Left}
-use Rattle.ds_dma.specs.Channels.{ready_by}
-use Rattle.ds_dma.specs.States.{DmaState, WaitsBriefly, channel_at, channel_due, last_tick, least_running}
-use Rattle.ds_dma.specs.declared.channels.LastUnit.{LastUnit}
-use Rattle.ds_ipc.specs.Ipcs.{other_proc}
-use Rattle.ds_map.specs.Moves.{map_after_unit, next_unit}
-use Rattle.ds_ports.specs.Dues.{held_due, io_due}
-use Rattle.ds_ports.specs.Io.{IoState, io_of, stall_ends, tick_after, video_done}
-use Rattle.ds_ports.specs.Within.{IsPastBy}
-use Rattle.ds_ports.proofs.Later.{of_both}
+use Rattle.ds_dma.specs.States.{WaitsBriefly}
 use Rattle.ds_ports.proofs.WithinEvents.{event_stays, geometry_stays, halt_stays, keys_stay, settle_stays, show_stays, swap_stays}
-use Rattle.ds_ports.proofs.WithinPorts.{Stays}
-use Rattle.ds_runs.proofs.RunLaws.{same_makes}
-use Rattle.ds_runs.specs.Runs.{Makes}
 use Rattle.ds_runs.specs.declared.actors.Actor as actor
-use Rattle.ds_runs.specs.declared.actors.Actor.TheVariants.{KeyScript, Video, Geometry, Dma, Processor}
-use Rattle.gx_fifo.specs.GxStates.{is_stalled}
-use Rattle.video2d.specs.Scans.{scan_due, scan_due_tick, scan_line_start, starts_vblank}
-use Rattle.video2d.specs.Videos.{video_stop}
-use Rattle.ds_machine.specs.Channels.{channel_step, one_event, past_tick}
-use Rattle.ds_machine.specs.Reference.{Shown, after_event, after_geometry, after_line, after_video, step_by, swapped_if}
-use Rattle.ds_machine.specs.States.{MachineState, ProcessorState}
-use Rattle.ds_machine.specs.Steps.{due_past_unit, ended, gone_by, goes_on, is_blocked, is_halted, machine_settled, map_of, past_unit, processor_of, tick_of, wakes, with_map, with_processor, woken_one}
+use Rattle.video2d.specs.Scans.{scan_line_start}
 use Rattle.ds_machine.proofs.ChannelEvents.{channel_is_due, channel_made, machine_after_unit, map_processor}
 use Rattle.ds_machine.proofs.Halting.{event_due, gone_other, unit_other_due}
 use Rattle.ds_machine.proofs.MachineSchedule.{Steps}

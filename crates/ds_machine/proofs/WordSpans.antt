@@ -1,12 +1,5 @@
-use Rattle.std.proofs.Common.{ℕ, suc, ◌≡◌, ◌<◌, ◌+◌, ◌-◌, ◌*◌, ◌/◌, ◌%◌, ◌^◌, Bool, true, false, refl, sym, ◌∙◌, ap, arith}
-use Rattle.std.specs.Prelude.{◌&&◌}
-use Rattle.std.specs.List.{list_all}
-use Rattle.ds_base.specs.declared.processors.Proc.{Proc}
-use Rattle.ds_base.specs.declared.processors.Proc.TheVariants.{Nine, Seven}
-use Rattle.arm_core.specs.Footprints.{span}
-use Rattle.ds_machine.specs.States.{MachineState}
-use Rattle.ds_machine.specs.Steps.{nine_reach, seven_reach, tick_of}
-use Rattle.ds_machine.specs.Touching.{is_private_to}
+use Rattle.ds_machine.proofs.Words.{ℕ, suc, ◌≡◌, ◌<◌, ◌+◌, ◌-◌, ◌*◌, ◌/◌, ◌%◌, ◌^◌, Bool, true, false, refl, sym, ◌∙◌, ap, arith, ◌&&◌, list_all}
+use Rattle.ds_machine.proofs.Words.{Proc, Nine, Seven, span, MachineState, nine_reach, seven_reach, tick_of, is_private_to}
 use Rattle.ds_machine.proofs.PlacesByWords.{nine_by_words, seven_by_words}
 
 -- A span of whole words is asked word by word, where the four bytes of each answer the same.

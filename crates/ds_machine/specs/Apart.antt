@@ -2,7 +2,7 @@ use Rattle.std.specs.Prelude.{ℕ, ◌≢◌, List}
 use Rattle.ds_base.specs.declared.processors.Proc.TheVariants.{Nine}
 use Rattle.ds_runs.specs.declared.actors.Actor as actor
 use Rattle.ds_runs.specs.declared.actors.Actor.TheVariants.{Processor}
-use Rattle.ds_map.specs.Shares.{SharedPart, shared_of, shared_put, shares_put}
+use Rattle.ds_map.specs.ShareLaws.{SharedPart, shared_of, shared_put, shares_put}
 use Rattle.ds_machine.specs.Hearing.{Fences}
 use Rattle.ds_machine.specs.States.{MachineState, NineState, SevenState}
 

@@ -13,7 +13,7 @@ use Rattle.ds_math.specs.Dividers.{IsDivider}
 use Rattle.ds_math.specs.Roots.{IsRootUnit}
 use Rattle.ds_ports.specs.Io.{IoState, io_of}
 use Rattle.ds_runs.specs.Runs.{IsOver}
-use Rattle.ds_state.specs.Laws.{RoundTrips}
+use Rattle.ds_state.specs.FormatLaws.{RoundTrips}
 use Rattle.ds_timers.specs.Irqs.{IsIrq}
 use Rattle.gx_fifo.specs.GxStates.{IsGx}
 use Rattle.gx_fifo.specs.Saved.{HasGxBounds}
@@ -24,7 +24,7 @@ use Rattle.ds_machine.specs.Sound.{IsSound}
 use Rattle.ds_machine.specs.States.{MachineState}
 use Rattle.ds_machine.specs.Statuses.{HasBothStatuses}
 use Rattle.ds_machine.specs.Steps.{processor_of}
-use Rattle.ds_machine.specs.Within.{IsWithinTick}
+use Rattle.ds_machine.specs.WithinLaws.{IsWithinTick}
 
 -- What a machine at a tick needs to come back from its bytes.
 

@@ -9,7 +9,7 @@ use Rattle.ds_base.specs.declared.processors.Proc.TheVariants.{Nine, Seven}
 use Rattle.ds_base.specs.declared.ticks.Tick.{Tick}
 use Rattle.ds_card.specs.CardPorts.{data_port_at}
 use Rattle.ds_card.specs.Cards.{CardState, IsCard, card_taken, transfer_begun}
-use Rattle.ds_card.specs.Transfers.{BeginsWithTransfer, CardPasses, and_taken}
+use Rattle.ds_card.specs.TransferLaws.{BeginsWithTransfer, CardPasses, and_taken}
 use Rattle.cp15_tcm.specs.TightlyCoupled.{tcm_of}
 use Rattle.cp15_tcm.specs.declared.answers.Tcm.{Tcm}
 use Rattle.cp15_tcm.specs.declared.answers.Tcm.TheVariants.{Past}

@@ -12,10 +12,10 @@ use Rattle.ds_machine.specs.PrivateSides.{SideOf}
 
 -- one is carried out
 abbrev pub operation_outcome : {S : Type 0} → MemoryMachine S → SideOf S → RegisterState → S → Operation → Outcome S
-operation_outcome memory side s state operation = carried_out memory side.arch s state (operation_meaning side.arch s operation)
+operation_outcome memory side s state operation = carried_out memory side.step.arch s state (operation_meaning side.step.arch s operation)
 
 -- it is what any instruction comes to that it was decoded from
 abbrev pub RunsAs : {S : Type 0} → MemoryMachine S → SideOf S → RegisterState → S → Operation → Type 0
 RunsAs memory side s state operation =
-    (number : ℕ) (instr : Option Instr) → operation ≡ operation_of instr → side.executed s state number instr
+    (number : ℕ) (instr : Option Instr) → operation ≡ operation_of instr → side.step.executed s state number instr
     ≡ operation_outcome memory side s state operation

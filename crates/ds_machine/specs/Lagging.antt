@@ -20,11 +20,10 @@ use Rattle.ds_runs.specs.declared.actors.Actor as actor
 use Rattle.ds_runs.specs.declared.actors.Actor.TheVariants.{Dma, Geometry, Processor, Video}
 use Rattle.video2d.specs.Scans.{starts_vblank}
 use Rattle.ds_machine.specs.Acting.{acting_dues, is_behind}
-use Rattle.ds_machine.specs.Sides.{data_accesses}
+use Rattle.ds_machine.specs.Sides.{data_accesses, nine_step}
 use Rattle.ds_machine.specs.Hearing.{geometry_rank}
 use Rattle.ds_machine.specs.Reference.{Shown, reference, reference_step}
 use Rattle.ds_machine.specs.Sound.{IsSound}
-use Rattle.ds_machine.specs.PrivateSides.{nine_side}
 use Rattle.ds_machine.specs.States.{MachineState}
 use Rattle.ds_machine.specs.Steps.{line_of, nine_reach, tick_of}
 
@@ -58,7 +57,7 @@ nine_observes s =
     let r = nine_reach (tick_of s.nine.processor) s in
     let registers = s.nine.processor.registers in
     not (enters (line_of s Nine) registers)
-    && any_observes r (data_accesses nine_side.arch (nine_side.base r) registers (fetched nine_memory nine_side.arch registers r).instr)
+    && any_observes r (data_accesses nine_step.arch (nine_step.base r) registers (fetched nine_memory nine_step.arch registers r).instr)
 
 -- the next unit of ARM9's channels does
 abbrev pub channel_observes : IoState → Bool

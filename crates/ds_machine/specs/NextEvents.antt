@@ -8,14 +8,15 @@ use Rattle.ds_ports.specs.Io.{is_settled}
 use Rattle.ds_ipc.specs.Ipcs.{other_proc}
 use Rattle.ds_runs.specs.Runs.{IsOver, Makes, due_at}
 use Rattle.ds_runs.specs.declared.actors.Actor.TheVariants.{Processor}
-use Rattle.ds_machine.specs.Counting.{RunsWithSome}
+use Rattle.ds_machine.specs.CountingLaws.{RunsWithSome}
 use Rattle.ds_machine.specs.Lagging.{observes_by}
 use Rattle.ds_machine.specs.Private.{rank_of}
 use Rattle.ds_machine.specs.Reference.{keys_due, reference_step}
 use Rattle.ds_machine.specs.Sound.{AreAsleep}
 use Rattle.ds_machine.specs.States.{MachineState}
 use Rattle.ds_machine.specs.Steps.{is_blocked, line_of, processor_of}
-use Rattle.ds_machine.specs.TurnSteps.{BelongsToTurn, HasLimit, IsTurnEnd, own_remaining}
+use Rattle.ds_machine.specs.TurnSteps.{BelongsToTurn}
+use Rattle.ds_machine.specs.TurnLaws.{HasLimit, IsTurnEnd, own_remaining}
 use Rattle.ds_machine.specs.declared.going.Gone.{Gone}
 use Rattle.ds_machine.specs.declared.going.Gone.TheVariants as gone
 use Rattle.ds_machine.specs.declared.next_events.Ends.{Ends}
@@ -111,3 +112,4 @@ abbrev pub WentFast : ℕ → Proc → NextEvent → ℕ → ℕ → MachineStat
 WentFast until proc next_event end limit old gone.Took new = TookStep until proc old new × GoesFast until proc next_event end limit new
 WentFast until proc next_event end limit old gone.Over new = (¬ BelongsToTurn until old proc) × (new ≡ old)
 WentFast until proc next_event end limit old gone.Unknown new = new ≡ old
+WentFast until proc next_event end limit old gone.List new = new ≡ old

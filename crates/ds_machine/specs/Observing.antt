@@ -1,6 +1,6 @@
 use Rattle.std.specs.Prelude.{ℕ, ◌||◌, ◌&&◌, not, Bool, true, false, Option, None, Some}
 use Rattle.std.specs.List.{list_all}
-use Rattle.arm_core.specs.Footprints.{touched_bytes}
+use Rattle.arm_core.specs.FootprintLaws.{touched_bytes}
 use Rattle.arm_core.specs.declared.touches.Reach.{Reach}
 use Rattle.arm_core.specs.declared.touches.Touch.{Touch}
 use Rattle.arm_ops.specs.Operations.{loads}

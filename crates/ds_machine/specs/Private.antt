@@ -1,7 +1,6 @@
-use Rattle.std.specs.Prelude.{ℕ, ◌↔◌, ◌≡◌, ◌<◌, ◌≤◌, ◌==◌, ◌&&◌, ◌||◌, not, Bool, true, false, Contains, List, [], ◌∷◌, Option, Some, None}
+use Rattle.std.specs.Prelude.{ℕ, ◌≡◌, ◌<◌, ◌==◌, ◌&&◌, ◌||◌, not, Bool, true, false, Contains, List, [], ◌∷◌, Option, Some, None}
 use Rattle.ds_base.specs.Accesses.{Access, Fetch, MemoryMachine, Read, Write}
 use Rattle.ds_base.specs.Bits.{bit, bits}
-use Rattle.ds_base.specs.declared.left_out.LeftOut.{LeftOut}
 use Rattle.ds_base.specs.declared.processors.Arch.{Arch}
 use Rattle.ds_base.specs.declared.processors.Proc.{Proc}
 use Rattle.ds_base.specs.declared.processors.Proc.TheVariants.{Nine, Seven}
@@ -10,18 +9,16 @@ use Rattle.arm_words.specs.declared.instructions.Instr.{Instr}
 use Rattle.arm_words.specs.declared.instructions.Instr.TheVariants.{Bkpt, Coprocessor, Swi, ThumbBkpt, ThumbSwi}
 use Rattle.arm_core.specs.Footprints.{access_bytes}
 use Rattle.arm_core.specs.Registers.{RegisterState}
-use Rattle.arm_core.specs.Steps.{enters, fetched}
+use Rattle.arm_core.specs.Steps.{fetched}
 use Rattle.arm_core.specs.Undefined.{is_undefined}
 use Rattle.ds_map.specs.Views.{nine_memory, seven_memory}
 use Rattle.ds_ports.specs.Io.{io_of}
 use Rattle.ds_runs.specs.Actors.{actor_of}
-use Rattle.ds_runs.specs.Runs.{Ending, Makes, Runs, due_at}
+use Rattle.ds_runs.specs.Runs.{due_at}
 use Rattle.ds_timers.specs.Irqs.{IrqState}
 use Rattle.ds_machine.specs.Acting.{acting_dues}
 use Rattle.ds_machine.specs.Hearing.{Fences}
-use Rattle.ds_machine.specs.Reference.{Shown, reference, reference_step}
 use Rattle.ds_machine.specs.Sides.{data_accesses, next_fetch}
-use Rattle.ds_machine.specs.Sound.{IsSound}
 use Rattle.ds_machine.specs.PrivateSides.{SideOf, nine_side, seven_side}
 use Rattle.ds_machine.specs.States.{MachineState}
 use Rattle.ds_machine.specs.Steps.{is_blocked, line_of, nine_reach, processor_of, seven_reach, tick_of}
@@ -59,8 +56,8 @@ may_go_ahead arch (Some instr) = not (is_undefined arch (Some instr)) && not (st
 -- a step that enters no interrupt reaches private places alone: its fetch, and each access of its instruction, which is of such a kind
 pub record StaysPrivate {S : Type 0} (memory : MemoryMachine S) (side : SideOf S) (s : RegisterState) (state : S) : Type 0 where
   pub fetch : ReachesPrivate side state (next_fetch s)
-  pub kind : may_go_ahead side.arch (fetched memory side.arch s state).instr ≡ true
-  pub accesses : AllReachPrivate side state (data_accesses side.arch (side.base state) s (fetched memory side.arch s state).instr)
+  pub kind : may_go_ahead side.step.arch (fetched memory side.step.arch s state).instr ≡ true
+  pub accesses : AllReachPrivate side state (data_accesses side.step.arch (side.step.base state) s (fetched memory side.step.arch s state).instr)
 
 -- ---- in the machine
 
@@ -84,20 +81,6 @@ pub record IsPrivate (s : MachineState) (proc : Proc) : Type 0 where
   pub deaf : is_deaf s proc ≡ true
   pub own : ProcessorStaysPrivate s proc
 
--- So it stays while others step, but for the line, which others may raise while the I flag is set.
-pub record IsHarmless (s : MachineState) (proc : Proc) : Type 0 where
-  pub free : is_blocked s proc ≡ false
-  pub quiet : enters (line_of s proc) (processor_of s proc).registers ≡ false
-  pub deaf : is_deaf s proc ≡ true
-  pub own : ProcessorStaysPrivate s proc
-
--- the fence of a processor: the least tick at which one acts of those that may halt it, wake it or make it wait
-pub record IsFence (s : MachineState) (proc : Proc) (fence : Tick) : Type 0 where
-  pub rank : ℕ
-  pub there : due_at (acting_dues s) rank ≡ Some fence
-  pub fences : Fences (actor_of rank) proc s
-  pub least : (other : ℕ) (at : Tick) → due_at (acting_dues s) other ≡ Some at → Fences (actor_of other) proc s → fence.0 ≤ at.0
-
 -- a tick is below it
 abbrev pub IsBelowFence : MachineState → Proc → Tick → Type 0
 IsBelowFence s proc tick = (rank : ℕ) (at : Tick) → due_at (acting_dues s) rank ≡ Some at → Fences (actor_of rank) proc s → tick.0 < at.0
@@ -111,28 +94,3 @@ pub record IsAhead (s : MachineState) (proc : Proc) : Type 0 where
 abbrev pub rank_of : Proc → ℕ
 rank_of Nine = 22
 rank_of Seven = 23
-
--- ---- what running ahead comes to
-
--- a processor's step at a tick is one that others leave as it is, whoever steps first: it is harmless and below the processor's fence, and nothing is
--- to be settled, or to be woken
-pub record RunsAhead (proc : Proc) (s : MachineState) (t : Tick) : Type 0 where
-  pub sound : IsSound s
-  pub harmless : IsHarmless s proc
-  pub tick : t ≡ tick_of (processor_of s proc)
-  pub below : IsBelowFence s proc t
-
--- a step that may be taken before its turn is taken, puts out nothing, and leaves a sound machine
-pub record StepsAlone (s : MachineState) (proc : Proc) : Type 0 where
-  pub next : MachineState
-  pub makes : reference_step (rank_of proc) s ≡ Makes next []
-  pub sound : IsSound next
-
-abbrev pub AheadSteps : Type 0
-AheadSteps = (s : MachineState) (proc : Proc) → IsSound s → IsAhead s proc → StepsAlone s proc
-
--- taken before its turn, it changes neither where a run to a later tick ends nor what that run puts out
-abbrev pub AheadRuns : Type 0
-AheadRuns = (s next : MachineState) (proc : Proc) (limit : ℕ) → IsSound s → IsAhead s proc → (processor_of s proc).due < limit
-    → reference_step (rank_of proc) s ≡ Makes next []
-    → (end : Ending MachineState LeftOut) (outs : List Shown) → Runs reference limit end s outs ↔ Runs reference limit end next outs

@@ -1,8 +1,6 @@
-use Rattle.std.specs.Prelude.{ℕ, ◌||◌, Bool, true, Option}
-use Rattle.ds_base.specs.Accesses.{Access, MemoryMachine}
-use Rattle.ds_base.specs.declared.processors.Arch.{Arch}
+use Rattle.std.specs.Prelude.{ℕ, ◌||◌, Bool, true}
+use Rattle.ds_base.specs.Accesses.{MemoryMachine}
 use Rattle.ds_base.specs.declared.processors.Proc.TheVariants.{Nine}
-use Rattle.arm_words.specs.declared.instructions.Instr.{Instr}
 use Rattle.arm_core.specs.Effects.{Outcome}
 use Rattle.arm_core.specs.Registers.{RegisterState}
 use Rattle.cp15_tcm.specs.TightlyCoupled.{tcm_of}
@@ -17,24 +15,17 @@ use Rattle.ds_machine.specs.Sides.{StepOf, nine_step, seven_step, waits_of_step,
 -- What running ahead asks of a processor beside its step: the places that it alone reaches, and whose bytes no other actor changes (our choice of
 -- which).
 
--- what parts one processor from the other, over the states of what it reaches
+-- a processor's step, and what it alone reaches, over the states of what it reaches
 pub record SideOf (S : Type 0) : Type 0 where
-  pub arch : Arch
-  pub base : S → ℕ
+  pub step : StepOf S
   -- the byte at an address lies in the processor's private places, as a write, a fetch, or else a read reaches it
   pub is_private : S → (writing fetching : Bool) → ℕ → Bool
-  pub executed : RegisterState → S → ℕ → Option Instr → Outcome S
-  pub wait : S → Access → ℕ
-
--- its step goes by the rest
-abbrev pub side_step : {S : Type 0} → SideOf S → StepOf S
-side_step side = record { arch = side.arch; base = side.base; executed = side.executed; wait = side.wait }
 
 abbrev pub side_taken : {S : Type 0} → MemoryMachine S → SideOf S → Bool → RegisterState → S → Outcome S
-side_taken memory side line s state = taken memory (side_step side) line s state
+side_taken memory side line s state = taken memory side.step line s state
 
 abbrev pub side_waits : {S : Type 0} → MemoryMachine S → SideOf S → Bool → RegisterState → S → ℕ
-side_waits memory side line s state = waits_of_step memory (side_step side) line s state
+side_waits memory side line s state = waits_of_step memory side.step line s state
 
 -- ARM9's are ITCM and DTCM, and past them by the present map the bytes of shared work RAM that WRAMCNT shows to it, palettes, OAM, the addresses of
 -- video memory none of whose cells lies in a bank that is allotted to ARM7, and its boot ROM
@@ -51,18 +42,9 @@ is_private_to_seven at = is_of_region seven_rom_region at || is_of_region own_re
 
 abbrev pub nine_side : SideOf NineReach
 nine_side = record {
-  arch = nine_step.arch;
-  base = nine_step.base;
+  step = nine_step;
   is_private = λ r writing fetching at. is_private_tcm (tcm_of r.cp15 at writing fetching) r.map at;
-  executed = nine_step.executed;
-  wait = nine_step.wait;
 }
 
 abbrev pub seven_side : SideOf SevenReach
-seven_side = record {
-  arch = seven_step.arch;
-  base = seven_step.base;
-  is_private = λ r writing fetching at. is_private_to_seven at;
-  executed = seven_step.executed;
-  wait = seven_step.wait;
-}
+seven_side = record { step = seven_step; is_private = λ r writing fetching at. is_private_to_seven at }

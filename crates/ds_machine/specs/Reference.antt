@@ -96,13 +96,10 @@ video_step rank (Err stop) s = Stops (stopped_at rank (scan_due_tick s.io.video.
 abbrev pub step_by : ℕ → actor.Actor → MachineState → MachineStep MachineState Shown LeftOut
 step_by rank KeyScript s = Makes (after_line s.keys s) []
 step_by rank Video s = video_step rank (video_answer s.oam s.io.video) s
-step_by rank (Timer proc number) s = Makes (after_event (Timer proc number) s) []
-step_by rank Divider s = Makes (after_event Divider s) []
-step_by rank SquareRoot s = Makes (after_event SquareRoot s) []
 step_by rank Geometry s = Makes (after_geometry s) []
-step_by rank Card s = Makes (after_event Card s) []
 step_by rank (Dma proc channel) s = channel_step rank proc (io_due (Dma proc channel) s.io) s
 step_by rank (Processor proc) s = processor_step rank proc s
+step_by rank a s = Makes (after_event a s) []
 
 -- and after a step that is taken the units settle, and halted processors wake that are to
 abbrev pub awake : Option Tick → MachineStep MachineState Shown LeftOut → MachineStep MachineState Shown LeftOut

@@ -39,7 +39,7 @@ accesses_of arch base s (Some instr) = (meaning arch base s instr).accesses
 
 abbrev pub step_accesses : {S : Type 0} → MemoryMachine S → SideOf S → Bool → RegisterState → S → List Access
 step_accesses memory side line s state =
-    if enters line s then [] else accesses_of side.arch (side.base state) s (fetched memory side.arch s state).instr
+    if enters line s then [] else accesses_of side.step.arch (side.step.base state) s (fetched memory side.step.arch s state).instr
 
 -- ---- ARM9
 

@@ -22,7 +22,7 @@ use Rattle.ds_math.specs.Saved.{divider_format, root_format}
 use Rattle.ds_ports.specs.Io.{IoState, channel_comes_before}
 use Rattle.ds_ports.specs.ProcessorIo.{ProcessorIoState}
 use Rattle.ds_state.specs.Formats.{Format, number_code, flag_code, array, done, ◌>>=◌, one_field, its, each, any, at_most, keeps_mask, word_format, bytes_written}
-use Rattle.ds_state.specs.Laws.{OneSpelling}
+use Rattle.ds_state.specs.FormatLaws.{OneSpelling}
 use Rattle.ds_state.specs.Reading.{Left, read_format}
 use Rattle.ds_timers.specs.Irqs.{IrqState, irq_levelled, level, shares_bit}
 use Rattle.ds_timers.specs.Saved.{irq_format_by, timers_format}

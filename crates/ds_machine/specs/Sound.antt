@@ -1,7 +1,7 @@
 use Rattle.std.specs.Prelude.{◌≡◌, true, false}
 use Rattle.ds_base.specs.KeyLines.{AreKeyLines}
 use Rattle.ds_base.specs.declared.processors.Proc.{Proc}
-use Rattle.ds_ports.specs.Happenings.{IsIo}
+use Rattle.ds_ports.specs.HappeningLaws.{IsIo}
 use Rattle.ds_ports.specs.Io.{is_settled}
 use Rattle.ds_machine.specs.States.{MachineState}
 use Rattle.ds_machine.specs.Steps.{wakes}

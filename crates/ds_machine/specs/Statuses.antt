@@ -1,7 +1,7 @@
 use Rattle.std.specs.Prelude.{ℕ, List}
 use Rattle.ds_base.specs.declared.keys.KeyLine.{KeyLine}
 use Rattle.ds_base.specs.declared.processors.Arch.TheVariants.{V4}
-use Rattle.arm_core.specs.Statuses.{HasStatuses}
+use Rattle.arm_core.specs.StatusLaws.{HasStatuses}
 use Rattle.arm9_exec.specs.Statuses.{HasNineStatuses}
 use Rattle.ds_runs.specs.Runs.{At, MachineStep, Makes, Runs, Stops}
 use Rattle.ds_machine.specs.Booted.{machine_booted}

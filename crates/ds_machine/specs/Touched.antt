@@ -5,11 +5,11 @@ use Rattle.ds_base.specs.declared.processors.Proc.TheVariants.{Nine, Seven}
 use Rattle.ds_runs.specs.Runs.{MachineStep, Makes, Stops}
 use Rattle.ds_runs.specs.declared.actors.Actor as actor
 use Rattle.ds_runs.specs.declared.actors.Actor.TheVariants.{KeyScript, Video, Timer, Divider, SquareRoot, Geometry, Card, Dma, Processor}
-use Rattle.ds_map.specs.Shares.{is_beyond_seven, is_shown_to_nine}
+use Rattle.ds_map.specs.ShareLaws.{is_beyond_seven, is_shown_to_nine}
 use Rattle.ds_ports.specs.Io.{IoState}
 use Rattle.ds_ports.specs.Touches as parts
 use Rattle.ds_ports.specs.Touches.{UnitPart, Display, VideoMemory, BankControls, WramControl, IpcNine, IpcSeven, Pressed, Fill, Division, Released, IrqNine, IrqSeven, TimersNine, TimersSeven, KeycntNine, KeycntSeven, HaltNine, HaltSeven, DmaNine, DmaSeven, beyond, io_graft, irq_of, timers_of}
-use Rattle.vram_banks.specs.Mixes.{mixed}
+use Rattle.vram_banks.specs.MixLaws.{mixed}
 use Rattle.ds_machine.specs.Reference.{Shown, past_stall, reference_step, step_by}
 use Rattle.ds_machine.specs.States.{MachineState}
 use Rattle.ds_machine.specs.Statuses.{left_by}

@@ -7,13 +7,13 @@ use Rattle.ds_base.specs.declared.processors.Arch.TheVariants.{V4, V5}
 use Rattle.ds_base.specs.declared.processors.Proc.{Proc}
 use Rattle.ds_base.specs.declared.processors.Proc.TheVariants.{Nine, Seven}
 use Rattle.arm_words.specs.declared.instructions.Instr.{Instr}
-use Rattle.arm_core.specs.Footprints.{AreAsTold, AreOfData, Covers, touched_bytes}
+use Rattle.arm_core.specs.FootprintLaws.{AreAsTold, AreOfData, Covers, touched_bytes}
 use Rattle.arm_core.specs.Meanings.{meaning}
 use Rattle.arm_core.specs.Registers.{RegisterState}
 use Rattle.arm_core.specs.Steps.{fetched}
 use Rattle.arm_core.specs.declared.touches.Reach.{Reach}
 use Rattle.arm_core.specs.declared.touches.Touch.{Touch}
-use Rattle.arm_ops.specs.Meanings.{IsNear}
+use Rattle.arm_ops.specs.Meanings.{AreNear}
 use Rattle.arm_ops.specs.Operations.{loads}
 use Rattle.arm_ops.specs.declared.operations.DataAccess.{DataAccess}
 use Rattle.ds_base.specs.declared.ticks.Tick.{Tick}
@@ -60,7 +60,8 @@ FetchStaysPrivate s Seven = ReachesPrivate seven_side (seven_reach (tick_of s.se
 
 abbrev pub InstrReaches : {S : Type 0} → SideOf S → S → RegisterState → Instr → Type 0
 InstrReaches side state s instr =
-    (may_go_ahead side.arch (Some instr) ≡ true) × AllReachPrivate side state (data_accesses side.arch (side.base state) s (Some instr))
+    (may_go_ahead side.step.arch (Some instr) ≡ true)
+    × AllReachPrivate side state (data_accesses side.step.arch (side.step.base state) s (Some instr))
 
 abbrev pub InstrStaysPrivate : MachineState → Proc → Instr → Type 0
 InstrStaysPrivate s Nine instr = InstrReaches nine_side (nine_reach (tick_of s.nine.processor) s) s.nine.processor.registers instr
@@ -84,16 +85,17 @@ access_stays side state (Some access) = side.is_private state (not (loads access
 
 -- what is fetched is of a kind that may be taken before its turn, and its accesses of data stay in private places
 pub record DataStays {S : Type 0} (memory : MemoryMachine S) (side : SideOf S) (s : RegisterState) (state : S) : Type 0 where
-  pub kind : may_go_ahead side.arch (fetched memory side.arch s state).instr ≡ true
-  pub accesses : AllReachPrivate side state (data_accesses side.arch (side.base state) s (fetched memory side.arch s state).instr)
+  pub kind : may_go_ahead side.step.arch (fetched memory side.step.arch s state).instr ≡ true
+  pub accesses : AllReachPrivate side state (data_accesses side.step.arch (side.step.base state) s (fetched memory side.step.arch s state).instr)
 
 abbrev pub DataStaysPrivate : Tick → MachineState → Proc → Type 0
 DataStaysPrivate now s Nine = DataStays nine_memory nine_side s.nine.processor.registers (nine_reach now s)
 DataStaysPrivate now s Seven = DataStays seven_memory seven_side s.seven.processor.registers (seven_reach now s)
 
--- what is fetched makes one access of data at most, and that one of RAM, or a load from a port that changes no unit and isn't observed
+-- each access of data of what is fetched is one of RAM, or a load from a port that changes no unit and isn't observed
 abbrev pub DataIsNear : {S : Type 0} → MemoryMachine S → SideOf S → RegisterState → S → Type 0
-DataIsNear memory side s state = IsNear is_steady_port (data_accesses side.arch (side.base state) s (fetched memory side.arch s state).instr)
+DataIsNear memory side s state =
+    AreNear is_steady_port (data_accesses side.step.arch (side.step.base state) s (fetched memory side.step.arch s state).instr)
 
 abbrev pub DataStaysNear : Tick → MachineState → Proc → Type 0
 DataStaysNear now s Nine = DataIsNear nine_memory nine_side s.nine.processor.registers (nine_reach now s)

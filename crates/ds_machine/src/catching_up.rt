@@ -6,13 +6,13 @@ ghost use Rattle.ds_ports.specs.Acting.{is_quiet};
 ghost use Rattle.ds_runs.specs.Runs.{Makes};
 ghost use Rattle.ds_machine.specs.Acting as acting;
 ghost use Rattle.ds_machine.specs.Acting.{is_behind};
-ghost use Rattle.ds_machine.specs.Counting.{RunsWithSome};
+ghost use Rattle.ds_machine.specs.CountingLaws.{RunsWithSome};
 ghost use Rattle.ds_machine.specs.Lagging.{CatchesUp, CatchesUpFor, ComesBeforeAll};
 ghost use Rattle.ds_machine.specs.Hearing as hearing;
 ghost use Rattle.ds_machine.specs.Hearing.{geometry_rank};
 ghost use Rattle.ds_machine.specs.Reference.{reference_step};
 ghost use Rattle.ds_machine.specs.Sound.{IsSound};
-ghost use Rattle.ds_machine.specs.TurnSteps.{MayAct};
+ghost use Rattle.ds_machine.specs.TurnLaws.{MayAct};
 
 use crate::parts::Parts;
 use ds_base::Tick;

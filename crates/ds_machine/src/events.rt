@@ -19,7 +19,7 @@ ghost use Rattle.ds_runs.specs.declared.actors.Actor.TheVariants as actors;
 
 use crate::answers::Done;
 use crate::parts::Parts;
-use ds_base::{LeftOut, Proc, Stop, Tick};
+use ds_base::{LeftOut, Proc, Stop, Tick, known};
 use ds_dma::Unit;
 use ds_runs::Actor;
 use video2d::Shown;
@@ -42,7 +42,7 @@ impl Parts {
         requires counted { self.old.events ≤ 2 ^ 61 }
         ensures { awake (Some tick) (step_by rank actors.KeyScript self.old) ≡ stepped_of self.old result self.new }
     {
-        let _ = rank;
+        known!(rank);
         let line = self.script.take();
         self.io.press(line.pressed);
         self.end_event(tick);
@@ -86,7 +86,7 @@ impl Parts {
         requires run { self.old.io.gx.geometry.numbers.run ≤ 2 ^ 56 }
         ensures { awake (Some tick) (step_by rank actors.Geometry self.old) ≡ stepped_of self.old result self.new }
     {
-        let _ = rank;
+        known!(rank);
         self.finish_command(tick);
         self.end_event(tick);
         Done::Made
@@ -192,7 +192,7 @@ impl Parts {
         requires counted { self.old.events ≤ 2 ^ 61 }
         ensures { awake (Some tick) (step_by rank (actors.Dma proc channel) self.old) ≡ stepped_of self.old result self.new }
     {
-        let _ = channel;
+        known!(channel);
         let unit = self.io.processor(proc).unit();
         let stop = self.move_unit(proc, tick, unit);
         self.end_unit(rank, proc, tick, stop)

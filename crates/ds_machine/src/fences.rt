@@ -7,18 +7,20 @@ ghost use Rattle.ds_machine.specs.Acting.{acting_dues};
 ghost use Rattle.ds_machine.specs.FenceTicks.{channel_dues, fence_dues, timer_dues};
 ghost use Rattle.ds_machine.specs.NextEvents.{IsNextEvent};
 ghost use Rattle.ds_machine.specs.Private as private;
-ghost use Rattle.ds_machine.specs.Private.{IsAhead, IsBelowFence, IsFence};
-ghost use Rattle.ds_machine.specs.TurnSteps.{BelongsToTurn, HasLimit};
+ghost use Rattle.ds_machine.specs.Private.{IsAhead, IsBelowFence};
+ghost use Rattle.ds_machine.specs.PrivateLaws.{IsFence};
+ghost use Rattle.ds_machine.specs.TurnSteps.{BelongsToTurn};
+ghost use Rattle.ds_machine.specs.TurnLaws.{HasLimit};
 ghost use Rattle.ds_machine.specs.Reference.{keys_due, processor_due};
 ghost use Rattle.ds_machine.specs.Steps.{processor_of};
-ghost use Rattle.ds_runs.specs.Order as order;
-ghost use Rattle.ds_runs.specs.Order.{due_with_rank, first_from};
+ghost use Rattle.ds_runs.specs.OrderLaws as order;
+ghost use Rattle.ds_runs.specs.OrderLaws.{due_with_rank, first_from};
 ghost use Rattle.ds_runs.specs.Runs.{IsLeast};
 ghost use Rattle.video2d.specs.Scans.{scan_due_tick};
 
 use crate::next_events::NextEvent;
 use crate::parts::Parts;
-use ds_base::{Due, Proc, Tick};
+use ds_base::{Due, Proc, Tick, known};
 use ds_runs::{Actor, earlier, earlier_than, entry, later_than, ranks};
 
 /// A processor's rank among the actors.
@@ -104,7 +106,7 @@ impl Parts {
         requires { processor_due self.now proc ≡ Some tick }
         ensures { (result ≡ true) ↔ IsLeast (acting_dues self.now) tick (private.rank_of proc) }
     {
-        let _ = tick;
+        known!(tick);
         self.acting().rank == rank_of(proc)
     }
 

@@ -3,12 +3,13 @@
 ghost use Rattle.std.specs.Prelude.{◌≡◌, ◌↔◌, ◌<◌, ◌≤◌, ◌^◌, ◌⊎◌, false, true};
 ghost use Rattle.ds_machine.specs.NextEvents.{GoesFast, IsNextEvent, WentFast};
 ghost use Rattle.ds_machine.specs.Private.{IsBelowFence};
-ghost use Rattle.ds_machine.specs.TurnSteps.{IsTurnEnd};
+ghost use Rattle.ds_machine.specs.TurnLaws.{IsTurnEnd};
 ghost use Rattle.ds_machine.specs.Touching.{FetchStaysPrivate, MayBeAhead};
 
 use crate::next_events::NextEvent;
 use crate::parts::Parts;
 use crate::processors::ticks_of;
+use arm_ops::{Lists, Runner, Singles};
 use ds_base::{Proc, Tick};
 
 /// What came of trying a step of a processor's turn.
@@ -20,6 +21,8 @@ pub enum Gone {
     Over,
     /// Neither is known here: the step isn't one of the fast path.
     Unknown,
+    /// Nor is it here, but it is LDM or STM, which is tried as such.
+    List,
 }
 
 impl Parts {
@@ -75,12 +78,12 @@ impl Parts {
             && self.is_below_both(proc, until, end, tick)
     }
 
-    /// One step of a processor's turn, where it is one of the fast path; by the first tick at which an event acts, or 0, and the first at which the
-    /// processor isn't the least acting one any more. Its line is down, so it enters no interrupt. Where it is ahead of its turn it reaches private
-    /// places alone. It costs, and changes no unit: so no processor wakes, and what is kept stays. It observes nothing of geometry: it reaches RAM
-    /// alone, or loads from a port that isn't observed.
+    /// One step of a processor's turn, where it is one of the fast path, which makes one access at most, or is LDM or STM, as says who runs it; by
+    /// the first tick at which an event acts, or 0, and the first at which the processor isn't the least acting one any more. Its line is down, so
+    /// it enters no interrupt. Where it is ahead of its turn it reaches private places alone. It costs, and changes no unit: so no processor wakes,
+    /// and what is kept stays. It observes nothing of geometry: it reaches RAM alone, or loads from a port that isn't observed.
     #[inline(always)]
-    pub fn step_fast(
+    fn step_by<R: Runner>(
         &mut self,
         next_event: NextEvent,
         proc: Proc,
@@ -97,14 +100,54 @@ impl Parts {
         if ahead && !self.may_go_on(next_event, proc, until, end, Tick(due)) {
             return Gone::Over;
         }
-        let fast = self.take_fast(proc, Tick(due), false, ahead);
+        let fast = self.take_fast::<R>(proc, Tick(due), false, ahead);
         if fast.clocks == 0 {
             if fast.leaves {
                 return Gone::Over;
+            }
+            if fast.list {
+                return Gone::List;
             }
             return Gone::Unknown;
         }
         self.go_on(proc, ticks_of(proc, fast.clocks, fast.waits), false);
         Gone::Took
+    }
+
+    /// The same of LDM and STM. It stands out of line, so that the loop over steps has no second copy of what they need.
+    #[inline(never)]
+    fn step_list(
+        &mut self,
+        next_event: NextEvent,
+        proc: Proc,
+        until: Tick,
+        end: u64,
+        limit: u64,
+    ) -> Gone
+        requires early { until.0 ≤ 2 ^ 56 }
+        requires goes { GoesFast until.0 proc next_event end limit self.old }
+        ensures { WentFast until.0 proc next_event end limit self.old result self.new }
+    {
+        self.step_by::<Lists>(next_event, proc, until, end, limit)
+    }
+
+    /// One step of a processor's turn, where it is one of the fast path, whatever it is.
+    #[inline(always)]
+    pub fn step_fast(
+        &mut self,
+        next_event: NextEvent,
+        proc: Proc,
+        until: Tick,
+        end: u64,
+        limit: u64,
+    ) -> Gone
+        requires early { until.0 ≤ 2 ^ 56 }
+        requires goes { GoesFast until.0 proc next_event end limit self.old }
+        ensures { WentFast until.0 proc next_event end limit self.old result self.new }
+    {
+        match self.step_by::<Singles>(next_event, proc, until, end, limit) {
+            Gone::List => self.step_list(next_event, proc, until, end, limit),
+            gone => gone,
+        }
     }
 }

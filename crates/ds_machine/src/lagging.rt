@@ -104,7 +104,7 @@ impl Parts {
     fn instr_observes(&self, instr: &Instr) -> bool
         requires { HasFields instr.now }
         ensures { result ≡ (let r = nine_reach (tick_of self.now.nine.processor) self.now in any_observes r
-            (data_accesses V5 (nine_side.base r) self.now.nine.processor.registers (Some instr.now))) }
+            (data_accesses V5 (nine_side.step.base r) self.now.nine.processor.registers (Some instr.now))) }
     {
         !self.is_data_unobserved(self.footprint_of(Proc::Nine, instr))
     }
@@ -141,7 +141,7 @@ impl Parts {
         requires fields { HasOperation operation.now }
         requires known { is_other operation.now.op ≡ false }
         ensures { result ≡ (let r = nine_reach (tick_of self.now.nine.processor) self.now in any_observes r
-            (data_accesses V5 (nine_side.base r) self.now.nine.processor.registers (instr_at self.now Nine))) }
+            (data_accesses V5 (nine_side.step.base r) self.now.nine.processor.registers (instr_at self.now Nine))) }
     {
         self.is_made_observed(access_made(&self.nine.processor.core.registers, operation))
     }

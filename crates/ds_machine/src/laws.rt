@@ -3,17 +3,17 @@
 ghost use Rattle.ds_runs.specs.Laws.{RunsJoin, RunsAreOne, RunsExist, RunsEnd};
 ghost use Rattle.ds_machine.specs.Back.{MachinesComeBack};
 ghost use Rattle.ds_machine.specs.CardSteps.{LoadsGiveWords, MachineTakesInOrder, ReadsGiveWords, RunsTakeCardSteps, StepsPassCard};
-ghost use Rattle.ds_machine.specs.Frames.{FramesAreFew, StepsFollowFrames, StepsFollowLists, StopsLeaveFrames, StopsLeaveLists};
-ghost use Rattle.ds_machine.specs.Halting.{BootsKeepNoMore, RunsKeepNoMore};
+ghost use Rattle.ds_machine.specs.FrameLaws.{FramesAreFew, StepsFollowFrames, StepsFollowLists, StopsLeaveFrames, StopsLeaveLists};
+ghost use Rattle.ds_machine.specs.HaltingLaws.{BootsKeepNoMore, RunsKeepNoMore};
 ghost use Rattle.ds_machine.specs.Lagging.{CatchingUpRuns, LagRuns, LagStops};
 ghost use Rattle.ds_machine.specs.OwnSteps.{IsStep7, IsStep9};
-ghost use Rattle.ds_machine.specs.Private.{AheadRuns, AheadSteps};
-ghost use Rattle.ds_machine.specs.TurnSteps.{ActingMayStep, ActingRuns, ActingStops, TurnStepsFall};
+ghost use Rattle.ds_machine.specs.PrivateLaws.{AheadRuns, AheadSteps};
+ghost use Rattle.ds_machine.specs.TurnLaws.{ActingMayStep, ActingRuns, ActingStops, TurnStepsFall};
 ghost use Rattle.ds_machine.specs.Touched.{EachTouches, GeometryDelays, StepsKeepFile};
 ghost use Rattle.ds_machine.specs.Reference.{reference};
 ghost use Rattle.ds_machine.specs.Sound.{HasSoundParts};
-ghost use Rattle.ds_machine.specs.Counting.{CountsAddUp, LimitsRise, StartsRunning, StepsCount, StepsKeepRunning, StopsCountNone};
-ghost use Rattle.ds_machine.specs.Within.{BootsWithinTick, RunsKeepScript, RunsStayWithinTick, TicksRise};
+ghost use Rattle.ds_machine.specs.CountingLaws.{CountsAddUp, LimitsRise, StartsRunning, StepsCount, StepsKeepRunning, StopsCountNone};
+ghost use Rattle.ds_machine.specs.WithinLaws.{BootsWithinTick, RunsKeepScript, RunsStayWithinTick, TicksRise};
 ghost use Rattle.ds_machine.specs.Statuses.{BootsWithStatuses, RunsKeepStatuses, StepsKeepStatuses};
 
 /// Does nothing; its contract states the laws of the reference run, which hold for every state and every limit: the run to a

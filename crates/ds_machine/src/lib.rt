@@ -24,6 +24,8 @@
 //!   geometry lists that wait, and puts out the frame, whether a swap waited, and the lists of the last swap. The state is read with the file
 //!   of the cartridge that is handed in (`with_file`), before the step and after it, and no step changes that file (`touch_laws`, clause
 //!   `file`).
+//! - `looked` is the value that a processor's read at a tick gives at an address (`looked_of`), where anything answers, with nothing read; `pc`,
+//!   `cpsr` and `is_halted` tell a processor's address, its CPSR, and whether it is halted.
 //!
 //! Proved of turns:
 //! - `touches` is Yes exactly where a processor's next step may be taken before its turn, but for when it is due (`IsPrivate`): it is due,

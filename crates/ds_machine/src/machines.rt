@@ -14,17 +14,20 @@ ghost use Rattle.ds_machine.specs.Booted.{machine_booted};
 ghost use Rattle.ds_machine.specs.Frames.{framed_of};
 ghost use Rattle.ds_machine.specs.Lagging.{observes_by, CatchesUp, CatchesUpFor, ComesBeforeAll};
 ghost use Rattle.ds_machine.specs.Inspections.{memory_of, registers_of, seen_of};
-ghost use Rattle.ds_machine.specs.Private.{rank_of, IsFence, IsPrivate};
-ghost use Rattle.ds_machine.specs.TurnSteps.{due_or_never, BelongsToTurn, HasEnds, HasLimit, IsTurnEnd, MayAct, MayStep, TakesSteps};
+ghost use Rattle.ds_machine.specs.Private.{rank_of, IsPrivate};
+ghost use Rattle.ds_machine.specs.PrivateLaws.{IsFence};
+ghost use Rattle.ds_machine.specs.TurnLaws.{due_or_never, HasEnds, HasLimit, IsTurnEnd, MayAct, MayStep};
+ghost use Rattle.ds_machine.specs.TurnSteps.{BelongsToTurn, TakesSteps};
 ghost use Rattle.ds_machine.specs.declared.answers.Private.TheVariants.{Yes};
 ghost use Rattle.ds_machine.specs.Reference.{dues_of};
 ghost use Rattle.ds_machine.specs.Sound.{HasSoundParts};
 ghost use Rattle.ds_machine.specs.StepAnswers.{done_of, IsDue, Steps};
-ghost use Rattle.ds_machine.specs.Counting.{last_limit, IsRunning, RunsAfter, RunsOnWithEach, RunsWithSome};
+ghost use Rattle.ds_machine.specs.CountingLaws.{last_limit, IsRunning, RunsAfter, RunsOnWithEach, RunsWithSome};
 ghost use Rattle.ds_machine.specs.States.{with_file, MachineState};
 ghost use Rattle.ds_machine.specs.Statuses.{HasBothStatuses};
 ghost use Rattle.ds_machine.specs.Steps.{processor_of, tick_of};
 
+mod looks;
 mod saved;
 
 use crate::answers::{Done, Private, Seen};
@@ -33,7 +36,7 @@ use crate::going::Gone;
 use crate::next_events::{Ends, NextEvent};
 use crate::parts::Parts;
 use arm_exec::enters;
-use ds_base::{Due, Keys, LeftOut, Memory, Proc, Tick, Width};
+use ds_base::{Due, Keys, LeftOut, Memory, Proc, Tick, Width, known};
 use ds_header::Cart;
 use ds_runs::{Actor, earlier_than};
 use gx_geometry::Lists;
@@ -71,7 +74,7 @@ impl Machine {
         ensures running { IfOk result (λ machine. IsRunning 0 (with_file cart.now machine)) }
     {
         let parts = Parts::new(alloc, cart, keys)?;
-        parts.laws();
+        known!(parts.laws());
         let next_event = parts.next_event();
         Ok(Machine { parts, next_event })
     }
@@ -132,7 +135,7 @@ impl Machine {
             × Steps (rank_of proc) caught (done_of stop.new) (with_file cart.now self.new) }
         ensures running { RunsAfter (done_of stop.new) (with_file cart.now self.new) }
     {
-        let _ = cart;
+        known!(cart);
         let rank = fences::rank_of(proc);
         let _caught = self.parts.catch_up_before(tick, rank);
         self.parts.step_own(proc, stop);
@@ -180,7 +183,7 @@ impl Machine {
             match self.parts.step_fast(next_event, proc, until, end, limit) {
                 Gone::Took => {}
                 Gone::Over => return true,
-                Gone::Unknown => return false,
+                Gone::Unknown | Gone::List => return false,
             }
         }
     }
@@ -210,7 +213,7 @@ impl Machine {
     }
 
     /// The least tick at which one acts of those that may halt a processor, wake it or make it wait: the key script, the display, its timers, its DMA
-    /// channels, and for ARM9 geometry, unless it is quiet.
+    /// channels, the card where it started the transfer, and for ARM9 geometry, unless it is quiet.
     pub fn fence(&self, proc: Proc) -> Tick
         ensures { IsFence self.now proc result }
     {
@@ -297,7 +300,7 @@ impl Machine {
         ensures card { IsCard self.now.io.card }
         ensures geometry { IsGx self.now.io.gx }
     {
-        self.parts.laws();
+        known!(self.parts.laws());
         self.parts.io.ipc().laws();
         self.parts.io.card().laws();
         self.parts.io.gx().laws();

@@ -9,7 +9,7 @@ ghost use Rattle.ds_machine.specs.NextEvents.{limit_by, limit_in, due_put};
 ghost use Rattle.ds_machine.specs.Sound.{AreAsleep};
 ghost use Rattle.ds_machine.specs.States.{MachineState};
 ghost use Rattle.ds_machine.specs.Steps.{is_blocked};
-ghost use Rattle.ds_machine.specs.TurnSteps.{HasEnds, IsFirst};
+ghost use Rattle.ds_machine.specs.TurnLaws.{HasEnds, IsFirst};
 
 use crate::parts::Parts;
 use ds_base::{Proc, Tick};

@@ -13,7 +13,7 @@ use crate::processors::Processor;
 use crate::scripts::Script;
 use cp15_tcm::Cp15;
 use decode_cache::Decoder;
-use ds_base::{DTCM_BYTES, ITCM_BYTES, Keys, Proc, Width};
+use ds_base::{DTCM_BYTES, ITCM_BYTES, Keys, Proc, Width, known};
 use ds_header::Cart;
 use ds_map::{Block, Map, fetched_by_nine};
 use ds_ports::Io;
@@ -144,8 +144,8 @@ impl Parts {
     pub fn laws(&self)
         ensures { HasSoundParts self.now }
     {
-        self.io.laws();
-        self.script.laws();
+        known!(self.io.laws());
+        known!(self.script.laws());
     }
 
     /// What a processor fetches at an address.

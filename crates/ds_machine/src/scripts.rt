@@ -5,7 +5,7 @@ ghost use Rattle.ds_base.specs.KeyLines.{AreKeyLines};
 ghost use Rattle.ds_machine.specs.Reference.{keys_due};
 ghost use Rattle.ds_machine.specs.Saved.{script_from, starts_before};
 
-use ds_base::{KeyLine, Keys, Tick};
+use ds_base::{KeyLine, Keys, Tick, known};
 use std::marker::Model;
 
 /// A key script, of which so many lines are past. Contracts see it as the list of the lines that are to come.
@@ -86,6 +86,6 @@ impl Script {
     pub fn laws(&self)
         ensures { AreKeyLines self.now }
     {
-        let _ = self.keys.len();
+        known!(self.keys.len());
     }
 }

@@ -1,10 +1,10 @@
 //! What a processor reaches at its step, and what parts it from the other.
 
-ghost use Rattle.std.specs.Prelude.{◌≡◌, ◌<◌, ◌≤◌, ℕ, List, false, IfSome};
+ghost use Rattle.std.specs.Prelude.{◌≡◌, ◌<◌, ◌≤◌, ℕ, List, false, true, IfSome};
 ghost use Rattle.ds_base.specs.Accesses.{Fetch, MemoryMachine};
 ghost use Rattle.arm_core.specs.declared.outcomes.Stepped.TheVariants.{Cost};
-ghost use Rattle.arm_ops.specs.Meanings.{access_made, operation_meaning, IsNear};
-ghost use Rattle.arm_ops.specs.Operations.{is_other, HasAccess, HasOperation};
+ghost use Rattle.arm_ops.specs.Meanings.{access_made, accesses_by, operation_meaning, AreNear};
+ghost use Rattle.arm_ops.specs.Operations.{is_decoded, is_other, HasAccess, HasOperation};
 ghost use Rattle.arm_words.specs.Fields.{HasFields};
 ghost use Rattle.ds_ports.specs.Io.{IoState};
 ghost use Rattle.cp15_tcm.specs.TightlyCoupled.{tcm_of};
@@ -23,7 +23,7 @@ ghost use Rattle.ds_machine.specs.Touching.{GoesByWords};
 use crate::steady_ports::SteadyPorts;
 use arm_core::{Registers, Stepped};
 use arm_exec::{Fetched, execute_word};
-use arm_ops::{DataAccess, Operation, run, run_made};
+use arm_ops::{DataAccess, Operation, Runner, run_made};
 use arm7_exec::execute7;
 use arm9_exec::{in_rom, move_if, move_of};
 use cp15_tcm::{Cp15, Tcm};
@@ -60,12 +60,12 @@ pub trait Side {
 
     /// The architecture.
     fn arch(&self) -> Arch
-        ensures { result ≡ side.arch };
+        ensures { result ≡ side.step.arch };
 
     /// What is fetched at an address, and how many ticks that waits; all stays as it is.
     fn fetched(&self, at: u32, width: Width) -> Given
         ensures number { result.number ≡ memory.fetch_value (state self.now) at width }
-        ensures waits { result.waits ≡ side.wait (state self.now) (Fetch at width) }
+        ensures waits { result.waits ≡ side.step.wait (state self.now) (Fetch at width) }
         ensures most { result.waits ≤ 8 };
 
     /// How many ticks its accesses of data waited since it was made.
@@ -74,7 +74,7 @@ pub trait Side {
 
     /// Where the exception vectors begin.
     fn base(&self) -> u32
-        ensures { result ≡ side.base (state self.now) };
+        ensures { result ≡ side.step.base (state self.now) };
 
     /// Whether the byte at an address lies in the processor's private places, as a write, a fetch, or else a read reaches it.
     fn is_private(&self, at: u32, writing: bool, fetching: bool) -> bool
@@ -90,11 +90,11 @@ pub trait Side {
         requires fields { IfSome next.instr HasFields }
         requires room { finds_room (state self.old) }
         requires begins { waits self.old ≡ 0 }
-        ensures registers { s.new ≡ (side.executed s.old (state self.old) next.number next.instr).registers }
-        ensures state { state self.new ≡ (side.executed s.old (state self.old) next.number next.instr).state }
-        ensures stepped { result ≡ (side.executed s.old (state self.old) next.number next.instr).stepped }
+        ensures registers { s.new ≡ (side.step.executed s.old (state self.old) next.number next.instr).registers }
+        ensures state { state self.new ≡ (side.step.executed s.old (state self.old) next.number next.instr).state }
+        ensures stepped { result ≡ (side.step.executed s.old (state self.old) next.number next.instr).stepped }
         ensures waits { waits self.new
-            ≡ waits_of memory side.wait (state self.old) (data_accesses side.arch (side.base (state self.old)) s.old next.instr) }
+            ≡ waits_of memory side.step.wait (state self.old) (data_accesses side.step.arch (side.step.base (state self.old)) s.old next.instr) }
         ensures brief { waits self.new ≤ 128 }
         ensures same { identity self.new ≡ identity self.old };
 
@@ -114,27 +114,31 @@ pub trait Side {
         ensures registers { s.new ≡ (operation_outcome memory side s.old (state self.old) operation.now).registers }
         ensures state { state self.new ≡ (operation_outcome memory side s.old (state self.old) operation.now).state }
         ensures stepped { result ≡ (operation_outcome memory side s.old (state self.old) operation.now).stepped }
-        ensures waits { waits self.new ≡ waits_of memory side.wait (state self.old) (operation_meaning side.arch s.old operation.now).accesses }
+        ensures waits { waits self.new
+            ≡ waits_of memory side.step.wait (state self.old) (operation_meaning side.step.arch s.old operation.now).accesses }
         ensures brief { waits self.new ≤ 128 }
         ensures executes { RunsAs memory side s.old (state self.old) operation.now }
         ensures same { identity self.new ≡ identity self.old };
 
     /// Runs an operation, where it is frequent and reaches RAM alone, or loads from a port that changes no unit and isn't observed; so no unit
-    /// changes. The result is its cost; 0 where it isn't run, and then nothing is changed.
-    fn run_fast(&mut self, s: &mut Registers, operation: &Operation) -> u32
+    /// changes. It makes one access at most, or is LDM or STM, by who runs it. The result is its cost; 0 where it isn't run, and then nothing is
+    /// changed.
+    fn run_fast<R: Runner>(&mut self, s: &mut Registers, operation: &Operation) -> u32
         requires fields { HasOperation operation.now }
         requires room { finds_room (state self.old) }
         requires begins { waits self.old ≡ 0 }
         ensures none { result ≡ 0 → (s.new ≡ s.old) × (state self.new ≡ state self.old) }
-        ensures known { 0 < result → is_other operation.now.op ≡ false }
+        ensures known { 0 < result → is_decoded operation.now.op ≡ true }
+        ensures told { R.lists ≡ false → 0 < result
+            → (operation_meaning side.step.arch s.old operation.now).accesses ≡ accesses_by side.step.arch s.old (access_made s.old operation.now) }
         ensures registers { 0 < result → s.new ≡ (operation_outcome memory side s.old (state self.old) operation.now).registers }
         ensures state { 0 < result → state self.new ≡ (operation_outcome memory side s.old (state self.old) operation.now).state }
         ensures stepped { 0 < result → (operation_outcome memory side s.old (state self.old) operation.now).stepped ≡ Cost result }
         ensures waits { 0 < result → waits self.new
-            ≡ waits_of memory side.wait (state self.old) (operation_meaning side.arch s.old operation.now).accesses }
+            ≡ waits_of memory side.step.wait (state self.old) (operation_meaning side.step.arch s.old operation.now).accesses }
         ensures brief { waits self.new ≤ 128 }
         ensures executes { 0 < result → RunsAs memory side s.old (state self.old) operation.now }
-        ensures near { 0 < result → IsNear is_steady_port (operation_meaning side.arch s.old operation.now).accesses }
+        ensures near { 0 < result → AreNear is_steady_port (operation_meaning side.step.arch s.old operation.now).accesses }
         ensures io { io (state self.new) ≡ io (state self.old) }
         ensures same { identity self.new ≡ identity self.old };
 }
@@ -181,7 +185,7 @@ pub fn is_private_to_seven(at: u32) -> bool
 impl Side for NineView<'_> {
     ghost use Rattle.std.specs.Prelude.{◌∷◌};
     ghost use Rattle.ds_base.specs.declared.processors.Proc.TheVariants.{Nine};
-    ghost use Rattle.ds_map.specs.Maps.{map_seen, unreached};
+    ghost use Rattle.ds_map.specs.MapLaws.{map_seen, unreached};
     ghost use Rattle.ds_map.specs.Views.{NineReach, nine_memory};
     ghost use Rattle.ds_machine.specs.GuardedSteps.{IsFree};
     ghost use Rattle.ds_machine.specs.PrivateSides.{nine_side};
@@ -254,15 +258,15 @@ impl Side for NineView<'_> {
 
     #[inline]
     #[tactic(auto, using(crate::proofs::WaitedSteps::waiting_refuses_none, crate::proofs::WaitedSteps::nine_operation))]
-    fn run_fast(&mut self, s: &mut Registers, operation: &Operation) -> u32 {
-        run::<Self, SteadyPorts>(Arch::V5, s, self, operation)
+    fn run_fast<R: Runner>(&mut self, s: &mut Registers, operation: &Operation) -> u32 {
+        R::run::<Self, SteadyPorts>(Arch::V5, s, self, operation)
     }
 }
 
 impl Side for SevenView<'_> {
     ghost use Rattle.std.specs.Prelude.{◌∷◌};
     ghost use Rattle.ds_base.specs.declared.processors.Proc.TheVariants.{Seven};
-    ghost use Rattle.ds_map.specs.Maps.{map_seen, unreached};
+    ghost use Rattle.ds_map.specs.MapLaws.{map_seen, unreached};
     ghost use Rattle.ds_map.specs.Views.{SevenReach, seven_memory};
     ghost use Rattle.ds_machine.specs.PrivateSides.{seven_side};
 
@@ -328,7 +332,7 @@ impl Side for SevenView<'_> {
 
     #[inline]
     #[tactic(auto, using(crate::proofs::WaitedSteps::seven_waiting_refuses_none))]
-    fn run_fast(&mut self, s: &mut Registers, operation: &Operation) -> u32 {
-        run::<Self, SteadyPorts>(Arch::V4, s, self, operation)
+    fn run_fast<R: Runner>(&mut self, s: &mut Registers, operation: &Operation) -> u32 {
+        R::run::<Self, SteadyPorts>(Arch::V4, s, self, operation)
     }
 }

@@ -5,14 +5,14 @@ ghost use Rattle.arm_core.specs.declared.outcomes.Stepped.TheVariants.{Cost};
 ghost use Rattle.ds_base.specs.declared.processors.Proc.{Proc};
 ghost use Rattle.ds_runs.specs.Actors.{IsNumbered};
 ghost use Rattle.ds_runs.specs.declared.actors.Actor.TheVariants.{Geometry, Processor};
-ghost use Rattle.ds_machine.specs.TurnSteps.{MayStep};
+ghost use Rattle.ds_machine.specs.TurnLaws.{MayStep};
 ghost use Rattle.ds_machine.specs.GuardedSteps.{IsFreeFor};
 ghost use Rattle.ds_machine.specs.Processors.{stop_in};
 ghost use Rattle.ds_machine.specs.Reference.{awake, due_by, step_by};
 ghost use Rattle.ds_machine.specs.States.{with_file};
 ghost use Rattle.ds_machine.specs.Private as private;
 ghost use Rattle.ds_machine.specs.StepAnswers.{done_of, stepped_of, Steps};
-ghost use Rattle.ds_machine.specs.Counting.{RunsWithSome};
+ghost use Rattle.ds_machine.specs.CountingLaws.{RunsWithSome};
 ghost use Rattle.ds_machine.specs.Touching.{DataStaysNear, DataStaysPrivate};
 ghost use Rattle.ds_base.specs.Processors.{ticks_per_clock};
 ghost use Rattle.ds_machine.specs.Steps.{in_ticks, machine_concluded, goes_on, gone_by, is_halted, line_of, due_past_unit, outcome_of, processor_of, wakes, went_on, with_processor, woken, woken_one, ended};
@@ -23,7 +23,8 @@ use crate::parts::Parts;
 use crate::processors::{past_unit, ticks_of};
 use crate::steps::{Came, Fast, take_fast_in_view, take_in_view};
 use arm_core::Stepped;
-use ds_base::{LeftOut, Proc, Stop, Tick};
+use arm_ops::Runner;
+use ds_base::{LeftOut, Proc, Stop, Tick, known};
 use ds_map::{NineView, SevenView};
 use ds_runs::Actor;
 
@@ -108,7 +109,7 @@ impl Parts {
         requires none { stop.old ≡ None }
         ensures { awake (Some tick) (step_by rank (Actor.Processor proc) self.old) ≡ stepped_of self.old (done_of stop.new) self.new }
     {
-        self.laws();
+        known!(self.laws());
         let line = self.line(proc);
         let came = self.take(proc, tick, line);
         self.conclude(rank, proc, tick, came, stop);
@@ -158,10 +159,10 @@ impl Parts {
         }
     }
 
-    /// Takes it where it is fast, and where it is ahead of its turn reaches private places alone. Where it isn't taken nothing is changed. No unit
-    /// changes.
+    /// Takes it where it is fast, and where it is ahead of its turn reaches private places alone: what makes one access at most, or LDM and STM, as
+    /// says who runs it. Where it isn't taken nothing is changed. No unit changes.
     #[inline(always)]
-    pub fn take_fast(&mut self, proc: Proc, now: Tick, line: bool, ahead: bool) -> Fast
+    pub fn take_fast<R: Runner>(&mut self, proc: Proc, now: Tick, line: bool, ahead: bool) -> Fast
         requires early { now.0 ≤ 2 ^ 56 }
         requires line { line ≡ line_of self.old proc }
         requires room { IsFreeFor proc self.old }
@@ -185,7 +186,7 @@ impl Parts {
                     now,
                     waits: 0,
                 };
-                take_fast_in_view(
+                take_fast_in_view::<_, 5, R>(
                     &mut self.nine.processor.core.registers,
                     &mut self.nine.decoder,
                     &mut view,
@@ -200,7 +201,7 @@ impl Parts {
                     now,
                     waits: 0,
                 };
-                take_fast_in_view(
+                take_fast_in_view::<_, 4, R>(
                     &mut self.seven.processor.core.registers,
                     &mut self.seven.decoder,
                     &mut view,

@@ -1,24 +1,14 @@
-use Rattle.std.proofs.Common.{ℕ, ◌≡◌, nat_lt, true, false, None, refl, ◌∙◌, ap}
+use Rattle.ds_map.proofs.Words.{ℕ, ◌≡◌, nat_lt, true, false, None, refl, ◌∙◌, ap, Width, Proc, Nine, Seven, Tick, tcm_of, Tcm, place_of, Place}
+use Rattle.ds_map.proofs.Words.{GxState, IoState, channel_moved, map_refusal, map_written, is_guarded, MapState, unit_read, unit_taken, unit_waits}
+use Rattle.ds_map.proofs.Words.{NineReach}
 use Rattle.ds_base.proofs.Choices.{if_false}
-use Rattle.ds_base.specs.declared.memories.Width.{Width}
-use Rattle.ds_base.specs.declared.processors.Proc.{Proc}
-use Rattle.ds_base.specs.declared.processors.Proc.TheVariants.{Nine, Seven}
-use Rattle.ds_base.specs.declared.ticks.Tick.{Tick}
-use Rattle.cp15_tcm.specs.TightlyCoupled.{tcm_of}
-use Rattle.cp15_tcm.specs.declared.answers.Tcm.{Tcm}
 use Rattle.cp15_tcm.specs.declared.answers.Tcm.TheVariants.{Itcm, Dtcm, Past}
 use Rattle.ds_dma.specs.declared.channels.Unit.{Unit as DmaUnit}
-use Rattle.ds_places.specs.AddressTables.{place_of}
-use Rattle.ds_places.specs.declared.kinds.Place.{Place}
 use Rattle.ds_places.specs.declared.kinds.Place.TheVariants as place
-use Rattle.gx_fifo.specs.GxStates.{GxState, waiting_entries}
+use Rattle.gx_fifo.specs.GxStates.{waiting_entries}
 use Rattle.ds_ports.specs.Guards.{is_overfull}
-use Rattle.ds_ports.specs.Io.{IoState, channel_moved}
-use Rattle.ds_map.specs.Accesses.{map_refusal, map_written}
-use Rattle.ds_map.specs.Guards.{guarded_memory, is_guarded, map_guarded, map_guarded_refusal, meets_guard, tcm_guarded, tcm_guarded_refusal}
-use Rattle.ds_map.specs.Maps.{MapState}
-use Rattle.ds_map.specs.Moves.{unit_read, unit_taken, unit_waits}
-use Rattle.ds_map.specs.Views.{NineReach, nine_memory, tcm_refusal, tcm_written}
+use Rattle.ds_map.specs.Guards.{guarded_memory, map_guarded, map_guarded_refusal, meets_guard, tcm_guarded, tcm_guarded_refusal}
+use Rattle.ds_map.specs.Views.{nine_memory, tcm_refusal, tcm_written}
 use Rattle.ds_map.proofs.Later.{map_read_leaves}
 
 -- Where writes meet no guard.

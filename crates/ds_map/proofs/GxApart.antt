@@ -1,29 +1,16 @@
-use Rattle.std.proofs.Common.{ℕ, ◌≡◌, ◌<◌, ◌+◌, ◌-◌, ◌/◌, ◌==◌, ◌&&◌, nat_le, Bool, true, false, if◌then◌else◌, [], ◌∷◌, Option, Some, None, refl, ◌∙◌, arith, List}
-use Rattle.ds_base.proofs.Choices.{either}
-use Rattle.ds_base.specs.Memories.{memory_size}
-use Rattle.ds_base.specs.Numbers.{aligned_down, width_bytes}
-use Rattle.ds_base.specs.declared.left_out.Stop.{Stop}
-use Rattle.ds_base.specs.declared.memories.Memory.TheVariants.{Main, Shared, Palette, Vram, Oam}
+use Rattle.ds_map.proofs.Words.{ℕ, ◌≡◌, ◌<◌, ◌+◌, ◌-◌, ◌/◌, ◌==◌, ◌&&◌, nat_le, Bool, true, false, if◌then◌else◌, [], ◌∷◌, Option, Some, None, refl}
+use Rattle.ds_map.proofs.Words.{◌∙◌, arith, List, either, memory_size, aligned_down, width_bytes, Stop, Main, Shared, Palette, Vram, Oam, Width, Byte}
+use Rattle.ds_map.proofs.Words.{Half, Word, Proc, Nine, Seven, Tick, BootRom, Cells, Empty, Ports, Video, place_at, place_by, place_of}
+use Rattle.ds_map.proofs.Words.{shared_for_nine, Place, Banks, Cell, Nothing, Port, Rom, IoState, channel_moved, port_refusal, port_written}
+use Rattle.ds_map.proofs.Words.{unless_stopped, is_control_word, is_geometry_offset, GxState, vram_written, after_read_at, is_byte_of_nine}
+use Rattle.ds_map.proofs.Words.{map_fetched, map_read, map_refusal, map_value, map_written, takes_no_bytes, written_at, MapState, map_after_unit}
+use Rattle.ds_map.proofs.Words.{unit_moved, unit_read, unit_refusal, unit_taken, unit_waits, is_observed_port}
 use Rattle.ds_base.specs.declared.memories.Space.TheVariants.{ABg, BBg, AObj, BObj, Lcdc}
-use Rattle.ds_base.specs.declared.memories.Width.{Width}
-use Rattle.ds_base.specs.declared.memories.Width.TheVariants.{Byte, Half, Word}
-use Rattle.ds_base.specs.declared.processors.Proc.{Proc}
-use Rattle.ds_base.specs.declared.processors.Proc.TheVariants.{Nine, Seven}
-use Rattle.ds_base.specs.declared.ticks.Tick.{Tick}
 use Rattle.ds_dma.specs.declared.channels.Unit.{Unit as DmaUnit}
-use Rattle.ds_places.specs.AddressTables.{BootRom, Cells, Empty, Ports, Video, place_at, place_by, place_of, region, shared_for_nine}
-use Rattle.ds_places.specs.declared.kinds.Place.{Place}
-use Rattle.ds_places.specs.declared.kinds.Place.TheVariants.{Banks, Cell, Nothing, Port, Rom}
-use Rattle.ds_ports.specs.Io.{IoState, channel_moved, with_gx}
-use Rattle.ds_ports.specs.Ports.{port_refusal, port_written, unless_stopped}
-use Rattle.ds_ports.proofs.Arms.{ArmsNoMore, KeepsControls, arms_by, arms_kept, arms_then, finished_arms, is_control_word, keeps_by, keeps_same, read_dma, seven_write_dma, write_keeps}
-use Rattle.ds_ports.proofs.GxApart.{IsApartFromGeometry, covers_apart, is_geometry_offset, moved_apart, of_geometry, with_it}
-use Rattle.gx_fifo.specs.GxStates.{GxState}
-use Rattle.vram_banks.specs.Cells.{vram_written}
-use Rattle.ds_map.specs.Accesses.{after_read_at, is_byte_of_nine, map_fetched, map_read, map_refusal, map_value, map_written, takes_no_bytes, written_at}
-use Rattle.ds_map.specs.Maps.{MapState}
-use Rattle.ds_map.specs.Moves.{map_after_unit, unit_moved, unit_read, unit_refusal, unit_taken, unit_waits}
-use Rattle.ds_map.specs.ObservedPorts.{is_observed_port}
+use Rattle.ds_places.specs.AddressTables.{region}
+use Rattle.ds_ports.specs.Io.{with_gx}
+use Rattle.ds_ports.proofs.Arms.{ArmsNoMore, KeepsControls, arms_by, arms_kept, arms_then, finished_arms, keeps_by, keeps_same, read_dma, seven_write_dma, write_keeps}
+use Rattle.ds_ports.proofs.GxApart.{IsApartFromGeometry, covers_apart, moved_apart, of_geometry, with_it}
 use Rattle.ds_map.proofs.ObservedPorts.{no_control, no_geometry, observed_same}
 use Rattle.ds_map.proofs.Passed as passed
 use Rattle.ds_map.proofs.Passed.{IsPast, OfOthers, PlacePasses, fetch_passes, place_passes}

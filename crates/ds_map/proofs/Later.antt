@@ -1,22 +1,11 @@
-use Rattle.std.proofs.Common.{ℕ, Option, Some, None, refl}
+use Rattle.ds_map.proofs.Words.{ℕ, Option, Some, None, refl, either, aligned_down, Stop, Vram, Width, Proc, Tick, place_of, Place, port_refusal}
+use Rattle.ds_map.proofs.Words.{port_written, unless_stopped, IoState, io_of, vram_written, is_byte_of_nine, after_read_at, map_read, map_written}
+use Rattle.ds_map.proofs.Words.{written_at, takes_no_bytes, MapState}
 use Rattle.std.specs.Prelude.{◌&&◌}
-use Rattle.ds_base.proofs.Choices.{either}
-use Rattle.ds_base.specs.Numbers.{aligned_down}
-use Rattle.ds_base.specs.declared.left_out.Stop.{Stop}
-use Rattle.ds_base.specs.declared.memories.Memory.TheVariants.{Vram}
-use Rattle.ds_base.specs.declared.memories.Width.{Width}
-use Rattle.ds_base.specs.declared.processors.Proc.{Proc}
-use Rattle.ds_base.specs.declared.ticks.Tick.{Tick}
-use Rattle.ds_places.specs.AddressTables.{place_of}
-use Rattle.ds_places.specs.declared.kinds.Place.{Place}
 use Rattle.ds_places.specs.declared.kinds.Place.TheVariants as place
-use Rattle.ds_ports.specs.Happenings.{Goes, IsProcessorIo, HasOnlyLaterEvents}
-use Rattle.ds_ports.specs.Ports.{port_refusal, port_written, unless_stopped}
-use Rattle.ds_ports.specs.Io.{IoState, io_of}
+use Rattle.ds_ports.specs.HappeningLaws.{Goes, IsProcessorIo, HasOnlyLaterEvents}
 use Rattle.ds_ports.proofs.Later.{ReadLeaves, all_left, goes_nowhere, leaves_all, port_leaves, read_goes, write_goes}
-use Rattle.vram_banks.specs.Cells.{Banks, vram_written}
-use Rattle.ds_map.specs.Accesses.{is_byte_of_nine, after_read_at, map_read, map_written, written_at, takes_no_bytes}
-use Rattle.ds_map.specs.Maps.{MapState}
+use Rattle.vram_banks.specs.Cells.{Banks}
 
 -- What accesses past the tightly coupled memories at a tick make of the units behind the ports.
 

@@ -1,3 +1,4 @@
+mod Words
 pub mod NineShares
 pub mod Reached
 pub mod Later

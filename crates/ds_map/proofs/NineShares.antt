@@ -1,26 +1,16 @@
-use Rattle.std.proofs.Common.{ℕ, ◌≡◌, ◌<◌, ◌≤◌, ◌+◌, ◌-◌, ◌%◌, ◌^◌, ◌==◌, ◌&&◌, nat_le, nat_lt, Bool, true, false, true≢false, if◌then◌else◌, List, [], ◌∷◌, length, None, refl, sym, ◌∙◌, ap, subst, arith}
-use Rattle.ds_base.proofs.Choices.{either}
-use Rattle.ds_base.specs.Memories.{memory_size}
-use Rattle.ds_base.specs.Numbers.{aligned_down, width_bytes, with_number}
-use Rattle.ds_base.specs.declared.memories.Memory.TheVariants.{Shared, Palette, Oam}
-use Rattle.ds_base.specs.declared.memories.Space.{Space}
-use Rattle.ds_base.specs.declared.memories.Space.TheVariants.{Arm7}
-use Rattle.ds_base.specs.declared.memories.Width.{Width}
-use Rattle.ds_base.specs.declared.memories.Width.TheVariants.{Byte, Half, Word}
-use Rattle.ds_base.specs.declared.processors.Proc.TheVariants.{Nine}
-use Rattle.ds_base.specs.declared.ticks.Tick.{Tick}
-use Rattle.ds_places.specs.AddressTables.{Cells, Empty, Region, place_at, place_by, place_of, regions_of_nine, shared_for_nine}
-use Rattle.ds_places.specs.declared.kinds.Place.{Place}
-use Rattle.ds_places.specs.declared.kinds.Place.TheVariants.{Cell, Banks, Rom, Nothing}
-use Rattle.ds_ports.specs.Io.{IoState}
+use Rattle.ds_map.proofs.Words.{ℕ, ◌≡◌, ◌<◌, ◌≤◌, ◌+◌, ◌-◌, ◌%◌, ◌^◌, ◌==◌, ◌&&◌, nat_le, nat_lt, Bool, true, false, true≢false, if◌then◌else◌, List}
+use Rattle.ds_map.proofs.Words.{[], ◌∷◌, length, None, refl, sym, ◌∙◌, ap, subst, arith, either, memory_size, aligned_down, width_bytes, with_number}
+use Rattle.ds_map.proofs.Words.{Shared, Palette, Oam, Space, Arm7, Width, Byte, Half, Word, Nine, Tick, Cells, Empty, Region, place_at, place_by}
+use Rattle.ds_map.proofs.Words.{place_of, shared_for_nine, Place, Cell, Banks, Rom, Nothing, IoState, vram_written, written_controls, written_length}
+use Rattle.ds_map.proofs.Words.{IsAll, with_number_length, after_read_at, cell_put, fetched_at, map_fetched, map_read, map_refusal, map_value}
+use Rattle.ds_map.proofs.Words.{map_written, refusal_at, value_at, written_at, MapState, MemoriesState, IsSharedSo, SharedPart, is_shown_to_nine}
+use Rattle.ds_map.proofs.Words.{mixed_banks, shared_put, shares_put}
+use Rattle.ds_places.specs.AddressTables.{regions_of_nine}
 use Rattle.vram_banks.specs.BankMap.{same_space}
 use Rattle.vram_banks.specs.Cells as cells
-use Rattle.vram_banks.specs.Cells.{vram_written}
-use Rattle.vram_banks.proofs.Allotted.{value_apart, written_apart, written_controls, written_length}
-use Rattle.vram_banks.proofs.Mixes.{IsAll, number_own, with_number_length, with_number_own}
-use Rattle.ds_map.specs.Accesses.{after_read_at, cell_put, fetched_at, map_fetched, map_read, map_refusal, map_value, map_written, refusal_at, value_at, written_at}
-use Rattle.ds_map.specs.Maps.{MapState, MemoriesState}
-use Rattle.ds_map.specs.Shares.{IsSharedSo, SharedPart, is_private_place, is_shown_to_nine, mixed_banks, shared_put, shares_put}
+use Rattle.vram_banks.proofs.Allotted.{value_apart, written_apart}
+use Rattle.vram_banks.proofs.Mixes.{number_own, with_number_own}
+use Rattle.ds_map.specs.Shares.{is_private_place}
 
 -- ARM9's accesses of the places that it alone reaches, past its tightly coupled memories, change its own bytes alone, depend on them alone, and aren't refused.
 

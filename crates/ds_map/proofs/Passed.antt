@@ -1,30 +1,18 @@
 use Rattle.std.specs.Prelude.{◌+◌, ◌&&◌}
-use Rattle.std.proofs.Common.{ℕ, ◌≡◌, Bool, false, if◌then◌else◌, List, Option, Some, None, refl, sym, ◌∙◌, ap}
+use Rattle.ds_map.proofs.Words.{ℕ, ◌≡◌, Bool, false, if◌then◌else◌, List, Option, Some, None, refl, sym, ◌∙◌, ap, aligned_down, with_number, Stop}
+use Rattle.ds_map.proofs.Words.{Memory, Shared, Vram, Space, Width, Proc, Tick, place_of, Place, Banks, Cell, Nothing, Port, Rom, IoState}
+use Rattle.ds_map.proofs.Words.{channel_moved, port_read, port_refusal, port_value, port_written, unless_stopped, UnitPart, BankControls, VideoMemory}
+use Rattle.ds_map.proofs.Words.{WramControl, io_graft, touches_none, vram_value, vram_written, after_read_at, cell_put, fetched_at, is_byte_of_nine}
+use Rattle.ds_map.proofs.Words.{map_fetched, map_read, map_refusal, map_value, map_written, refusal_at, takes_no_bytes, value_at, written_at}
+use Rattle.ds_map.proofs.Words.{MapState, MemoriesState, cells_of, with_cells, map_after_unit, unit_moved, unit_read, unit_refusal, unit_taken}
+use Rattle.ds_map.proofs.Words.{unit_waits, wait_at}
 use Rattle.ds_base.proofs.Choices.{and_false}
 use Rattle.ds_base.specs.Deeds.{pick}
-use Rattle.ds_base.specs.Numbers.{aligned_down, number_at, with_number}
-use Rattle.ds_base.specs.declared.left_out.Stop.{Stop}
-use Rattle.ds_base.specs.declared.memories.Memory.{Memory}
-use Rattle.ds_base.specs.declared.memories.Memory.TheVariants.{Shared, Vram}
-use Rattle.ds_base.specs.declared.memories.Space.{Space}
-use Rattle.ds_base.specs.declared.memories.Width.{Width}
-use Rattle.ds_base.specs.declared.processors.Proc.{Proc}
-use Rattle.ds_base.specs.declared.ticks.Tick.{Tick}
+use Rattle.ds_base.specs.Numbers.{number_at}
 use Rattle.ds_dma.specs.declared.channels.Unit.{Unit as DmaUnit}
-use Rattle.ds_places.specs.AddressTables.{place_of}
-use Rattle.ds_places.specs.declared.kinds.Place.{Place}
-use Rattle.ds_places.specs.declared.kinds.Place.TheVariants.{Banks, Cell, Nothing, Port, Rom}
-use Rattle.ds_ports.specs.Io.{IoState, channel_moved}
-use Rattle.ds_ports.specs.Ports.{port_read, port_refusal, port_value, port_written, unless_stopped}
-use Rattle.ds_ports.specs.Touches.{UnitPart, BankControls, VideoMemory, WramControl, io_graft, touches_none}
 use Rattle.ds_ports.proofs.Covered.{Covers, chosen, read_passes, refusal_passes, value_same, write_passes}
 use Rattle.ds_ports.proofs.Passed.{passes, reads}
 use Rattle.vram_banks.specs.Cells as cells
-use Rattle.vram_banks.specs.Cells.{vram_value, vram_written}
-use Rattle.ds_map.specs.Accesses.{after_read_at, cell_put, fetched_at, is_byte_of_nine, map_fetched, map_read, map_refusal, map_value, map_written, refusal_at, takes_no_bytes, value_at, written_at}
-use Rattle.ds_map.specs.Maps.{MapState, MemoriesState, cells_of, with_cells}
-use Rattle.ds_map.specs.Moves.{map_after_unit, unit_moved, unit_read, unit_refusal, unit_taken, unit_waits}
-use Rattle.ds_map.specs.Waits.{wait_at}
 
 -- An access of the map passes a change of what is in it where what stands at its address passes it: it comes to the same, and leaves what it left, changed. Proved once, for
 -- all changes of shared work RAM and of the units.

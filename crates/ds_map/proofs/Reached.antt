@@ -1,13 +1,10 @@
-use Rattle.std.proofs.Common.{ℕ, ◌≡◌, ◌-◌, Bool, true, false, true≢false, ◌&&◌, nat_le, ◌==◌, if◌then◌else◌, List, [], ◌∷◌, ◌++◌, ◌∙◌, length, refl, sym, ap}
+use Rattle.ds_map.proofs.Words.{ℕ, ◌≡◌, ◌-◌, Bool, true, false, true≢false, ◌&&◌, nat_le, ◌==◌, if◌then◌else◌, List, [], ◌∷◌, ◌∙◌, length, refl, sym}
+use Rattle.ds_map.proofs.Words.{ap, memory_size, Memory, Shared, Own7, Palette, Oam, Proc, Nine, Seven, Place, BootRom, Cells, Content, Empty, Ports}
+use Rattle.ds_map.proofs.Words.{Region, Video, place_at, place_by, place_of, shared_for_nine, MemoriesState, cells_of, with_cells}
+use Rattle.std.proofs.Common.{◌++◌}
 use Rattle.ds_base.proofs.Choices.{both}
-use Rattle.ds_base.specs.Memories.{memory_size}
-use Rattle.ds_base.specs.declared.memories.Memory.{Memory}
-use Rattle.ds_base.specs.declared.memories.Memory.TheVariants.{Shared, Own7, Palette, Oam}
-use Rattle.ds_base.specs.declared.processors.Proc.{Proc}
-use Rattle.ds_base.specs.declared.processors.Proc.TheVariants.{Nine, Seven}
-use Rattle.ds_places.specs.declared.kinds.Place.{Place}
-use Rattle.ds_places.specs.AddressTables.{BootRom, Cells, Content, Empty, Ports, Region, Video, place_at, place_by, place_of, regions_of, shared_for_nine, shared_for_seven}
-use Rattle.ds_map.specs.Maps.{MemoriesState, cells_of, is_reached, reached, reaches, unreached, unreached_oam, unreached_palette, unreached_wram, with_cells}
+use Rattle.ds_places.specs.AddressTables.{regions_of, shared_for_seven}
+use Rattle.ds_map.specs.MapLaws.{is_reached, reached, reaches, unreached, unreached_oam, unreached_palette, unreached_wram}
 
 -- The place of an address is one that its processor reaches, and accesses of what it reaches are those of all memories.
 

@@ -1,32 +1,22 @@
-use Rattle.std.proofs.Common.{ℕ, ◌≡◌, ◌<◌, ◌+◌, ◌%◌, ◌==◌, Bool, true, false, nat_le, nat_lt, if◌then◌else◌, Option, Some, None, List, length, refl, sym, ◌∙◌, ap, subst, arith}
-use Rattle.ds_base.specs.Memories.{memory_size}
-use Rattle.ds_base.specs.Numbers.{aligned_down, width_bytes}
-use Rattle.ds_base.specs.declared.left_out.Stop.{Stop}
-use Rattle.ds_base.specs.declared.memories.Memory.TheVariants.{Shared, Own7}
-use Rattle.ds_base.specs.declared.memories.Space.{Space}
-use Rattle.ds_base.specs.declared.memories.Space.TheVariants.{Arm7}
-use Rattle.ds_base.specs.declared.memories.Width.{Width}
-use Rattle.ds_base.specs.declared.memories.Width.TheVariants.{Byte, Half, Word}
-use Rattle.ds_base.specs.declared.processors.Proc.TheVariants.{Seven}
-use Rattle.ds_base.specs.declared.ticks.Tick.{Tick}
+use Rattle.ds_map.proofs.Words.{ℕ, ◌≡◌, ◌<◌, ◌+◌, ◌%◌, ◌==◌, Bool, true, false, nat_le, nat_lt, if◌then◌else◌, Option, Some, None, List, length, refl}
+use Rattle.ds_map.proofs.Words.{sym, ◌∙◌, ap, subst, arith, memory_size, aligned_down, width_bytes, Stop, Shared, Own7, Space, Arm7, Width, Byte}
+use Rattle.ds_map.proofs.Words.{Half, Word, Seven, Tick, Cells, Content, place_at, place_of, Place, Banks, Cell, Nothing, Port, Rom, IoState}
+use Rattle.ds_map.proofs.Words.{channel_moved, port_read, port_refusal, port_value, port_written, unless_stopped, UnitPart, BankControls, VideoMemory}
+use Rattle.ds_map.proofs.Words.{WramControl, io_graft, touches_none, vram_value, vram_written, written_controls, written_length, IsAll}
+use Rattle.ds_map.proofs.Words.{with_number_length, after_read_at, map_fetched, map_read, map_refusal, map_value, map_written, written_at, MapState}
+use Rattle.ds_map.proofs.Words.{unit_moved, unit_read, unit_refusal, unit_taken, IsSharedSo, SharedPart, is_shown_to_nine, mixed_banks, shared_put}
+use Rattle.ds_map.proofs.Words.{shares_put}
 use Rattle.ds_dma.specs.declared.channels.Unit.{Unit as DmaUnit}
-use Rattle.ds_places.specs.AddressTables.{Cells, Content, place_at, place_of, regions_of_seven}
-use Rattle.ds_places.specs.declared.kinds.Place.{Place}
-use Rattle.ds_places.specs.declared.kinds.Place.TheVariants.{Banks, Cell, Nothing, Port, Rom}
-use Rattle.ds_ports.specs.Io.{IoState, channel_moved, with_shares}
-use Rattle.ds_ports.specs.Ports.{port_read, port_refusal, port_value, port_written, unless_stopped}
-use Rattle.ds_ports.specs.Touches.{UnitPart, BankControls, VideoMemory, WramControl, io_graft, is_part, touches_none}
+use Rattle.ds_places.specs.AddressTables.{regions_of_seven}
+use Rattle.ds_ports.specs.Io.{with_shares}
+use Rattle.ds_ports.specs.Touches.{is_part}
 use Rattle.ds_ports.proofs.Covered.{covers_all}
 use Rattle.ds_ports.proofs.Passed.{keeps_part, read_left, write_left}
 use Rattle.vram_banks.specs.Cells as cells
-use Rattle.vram_banks.specs.Mixes.{mixed}
-use Rattle.vram_banks.specs.Cells.{vram_value, vram_written}
-use Rattle.vram_banks.proofs.Allotted.{value_allotted, written_allotted, written_controls, written_length}
-use Rattle.vram_banks.proofs.Mixes.{IsAll, number_other, with_number_length, with_number_other}
-use Rattle.ds_map.specs.Accesses.{after_read_at, map_fetched, map_read, map_refusal, map_value, map_written, written_at}
-use Rattle.ds_map.specs.Maps.{MapState}
-use Rattle.ds_map.specs.Moves.{unit_moved, unit_read, unit_refusal, unit_taken}
-use Rattle.ds_map.specs.Shares.{IsSharedSo, SharedPart, is_beyond_seven, is_shown_to_nine, map_put, mixed_banks, shared_put, shares_put}
+use Rattle.vram_banks.specs.MixLaws.{mixed}
+use Rattle.vram_banks.proofs.Allotted.{value_allotted, written_allotted}
+use Rattle.vram_banks.proofs.Mixes.{number_other, with_number_other}
+use Rattle.ds_map.specs.ShareLaws.{is_beyond_seven, map_put}
 use Rattle.ds_map.proofs.NineShares.{AllHold, by_all}
 use Rattle.ds_map.proofs.Passed as passed
 use Rattle.ds_map.proofs.Passed.{BanksPass, FetchPasses, PlacePasses, PortsPass, port_passes}

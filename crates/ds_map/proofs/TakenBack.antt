@@ -1,21 +1,10 @@
-use Rattle.std.proofs.Common.{ℕ, ◌≡◌, true≢false, Option, Some, None, IsSome, refl, sym, ◌∙◌, ap, subst}
-use Rattle.ds_base.specs.Numbers.{aligned_down}
-use Rattle.ds_base.specs.declared.left_out.Stop.{Stop}
-use Rattle.ds_base.specs.declared.memories.Width.{Width}
-use Rattle.ds_base.specs.declared.processors.Proc.{Proc}
-use Rattle.ds_base.specs.declared.processors.Proc.TheVariants.{Nine, Seven}
-use Rattle.ds_base.specs.declared.ticks.Tick.{Tick}
-use Rattle.ds_dma.specs.States.{DmaState, dma_due}
+use Rattle.ds_map.proofs.Words.{ℕ, ◌≡◌, true≢false, Option, Some, None, IsSome, refl, sym, ◌∙◌, ap, subst, aligned_down, Stop, Width, Proc, Nine}
+use Rattle.ds_map.proofs.Words.{Seven, Tick, dma_due, place_of, Place, before_move, port_refusal, port_written, unless_stopped, IoState}
+use Rattle.ds_map.proofs.Words.{channel_moved, channel_put_back, io_of, map_read, map_refusal, map_value, map_written, written_at, refusal_at}
+use Rattle.ds_map.proofs.Words.{MapState, map_after_unit, unit_read, unit_refusal, unit_taken, unit_waits}
+use Rattle.ds_dma.specs.States.{DmaState}
 use Rattle.ds_dma.specs.declared.channels.Unit.{Unit as DmaUnit}
-use Rattle.ds_places.specs.AddressTables.{place_of}
-use Rattle.ds_places.specs.declared.kinds.Place.{Place}
 use Rattle.ds_places.specs.declared.kinds.Place.TheVariants as place
-use Rattle.ds_ports.specs.ProcessorIo.{before_move}
-use Rattle.ds_ports.specs.Ports.{port_refusal, port_written, unless_stopped}
-use Rattle.ds_ports.specs.Io.{IoState, channel_moved, channel_put_back, io_of}
-use Rattle.ds_map.specs.Accesses.{map_read, map_refusal, map_value, map_written, written_at, refusal_at}
-use Rattle.ds_map.specs.Maps.{MapState}
-use Rattle.ds_map.specs.Moves.{map_after_unit, unit_read, unit_refusal, unit_taken, unit_waits}
 use Rattle.ds_map.proofs.Later.{map_read_leaves}
 
 -- A channel's unit: it is still due after its read, and where its write is refused all is as it was after the read.

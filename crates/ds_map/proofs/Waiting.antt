@@ -1,24 +1,13 @@
-use Rattle.std.proofs.Common.{ℕ, ◌≡◌, ◌<◌, ◌≤◌, ◌+◌, ◌*◌, ◌%◌, ◌^◌, true, false, List, [], ◌∷◌, length, Option, Some, None, ◌∙◌, ap, arith}
+use Rattle.ds_map.proofs.Words.{ℕ, ◌≡◌, ◌<◌, ◌≤◌, ◌+◌, ◌*◌, ◌%◌, ◌^◌, true, false, List, [], ◌∷◌, length, Option, Some, None, ◌∙◌, ap, arith, Stop}
+use Rattle.ds_map.proofs.Words.{Main, Shared, Own7, Palette, Vram, Oam, Width, Byte, Half, Word, Proc, Nine, Seven, Tick, tcm_of, Tcm, place_of}
+use Rattle.ds_map.proofs.Words.{Place, Banks, Cell, Nothing, Port, Rom, MapState, unit_read, unit_waits, NineReach, wait_at}
 use Rattle.ds_base.specs.Accesses.{Access, Fetch, MemoryMachine, Performed, Read, Write, perform, refused_or, with_value}
-use Rattle.ds_base.specs.declared.left_out.Stop.{Stop}
-use Rattle.ds_base.specs.declared.memories.Memory.TheVariants.{Main, Shared, Own7, Itcm, Dtcm, Palette, Vram, Oam}
-use Rattle.ds_base.specs.declared.memories.Width.{Width}
-use Rattle.ds_base.specs.declared.memories.Width.TheVariants.{Byte, Half, Word}
-use Rattle.ds_base.specs.declared.processors.Proc.{Proc}
-use Rattle.ds_base.specs.declared.processors.Proc.TheVariants.{Nine, Seven}
-use Rattle.ds_base.specs.declared.ticks.Tick.{Tick}
-use Rattle.cp15_tcm.specs.TightlyCoupled.{tcm_of}
-use Rattle.cp15_tcm.specs.declared.answers.Tcm.{Tcm}
+use Rattle.ds_base.specs.declared.memories.Memory.TheVariants.{Itcm, Dtcm}
 use Rattle.cp15_tcm.specs.declared.answers.Tcm.TheVariants as tcm
-use Rattle.ds_places.specs.AddressTables.{place_of}
 use Rattle.ds_places.specs.Waits.{RegionWaits, chosen_wait, region_waits, wait_of}
-use Rattle.ds_places.specs.declared.kinds.Place.{Place}
-use Rattle.ds_places.specs.declared.kinds.Place.TheVariants.{Banks, Cell, Nothing, Port, Rom}
 use Rattle.ds_dma.specs.declared.channels.Unit.{Unit as DmaUnit}
-use Rattle.ds_map.specs.Maps.{MapState}
-use Rattle.ds_map.specs.Moves.{unit_read, unit_waits}
-use Rattle.ds_map.specs.Views.{NineReach, SevenReach}
-use Rattle.ds_map.specs.Waits.{Waited, nine_wait, seven_wait, tcm_wait, unless_refused, wait_at, waiting, waits_of}
+use Rattle.ds_map.specs.Views.{SevenReach}
+use Rattle.ds_map.specs.Waits.{Waited, nine_wait, seven_wait, tcm_wait, unless_refused, waiting, waits_of}
 
 -- A bus that adds up waits comes to the same as one that doesn't, and adds up exactly the waits of the accesses that are made.
 

@@ -32,11 +32,8 @@ value_at proc now (Rom at) m width = rom_value proc (aligned_down width at) widt
 value_at proc now Nothing m width = 0
 
 abbrev pub after_read_at : Proc → Tick → Place → MapState → Width → MapState
-after_read_at proc now (Cell memory at) m width = m
-after_read_at proc now (Banks space at) m width = m
 after_read_at proc now (Port at) m width = record m { io = port_read proc now m.io (aligned_down width at) width }
-after_read_at proc now (Rom at) m width = m
-after_read_at proc now Nothing m width = m
+after_read_at proc now place m width = m
 
 -- what is fetched at a place: from a port 0 (our choice)
 abbrev pub fetched_at : Proc → Place → MapState → Width → ℕ
@@ -49,28 +46,19 @@ fetched_at proc Nothing m width = 0
 -- the memories that take no bytes of ARM9, and its byte accesses (GBATEK, "DS Memory Map": palettes, video memory and OAM are written
 -- by halves and words)
 abbrev pub takes_no_bytes : Memory → Bool
-takes_no_bytes Main = false
-takes_no_bytes Shared = false
-takes_no_bytes Own7 = false
-takes_no_bytes Itcm = false
-takes_no_bytes Dtcm = false
 takes_no_bytes Palette = true
 takes_no_bytes Vram = true
 takes_no_bytes Oam = true
+takes_no_bytes memory = false
 
 abbrev pub is_byte_of_nine : Proc → Width → Bool
 is_byte_of_nine Nine Byte = true
-is_byte_of_nine Nine Half = false
-is_byte_of_nine Nine Word = false
-is_byte_of_nine Seven width = false
+is_byte_of_nine proc width = false
 
 -- the stop for which a write is refused
 abbrev pub refusal_at : Proc → Place → MapState → Width → ℕ → Option Stop
-refusal_at proc (Cell memory at) m width value = None
-refusal_at proc (Banks space at) m width value = None
 refusal_at proc (Port at) m width value = port_refusal proc m.io (aligned_down width at) width value
-refusal_at proc (Rom at) m width value = None
-refusal_at proc Nothing m width value = None
+refusal_at proc place m width value = None
 
 -- what a write of a memory's cell leaves
 abbrev pub cell_put : Proc → Memory → MemoriesState → ℕ → Width → ℕ → MemoriesState
@@ -89,8 +77,7 @@ written_at proc now (Port at) m width value =
       io = unless_stopped (port_refusal proc m.io (aligned_down width at) width value) m.io
           (port_written proc now m.io (aligned_down width at) width value);
     }
-written_at proc now (Rom at) m width value = m
-written_at proc now Nothing m width value = m
+written_at proc now place m width value = m
 
 -- what a processor reads, fetches and writes at an address at a tick, what a read leaves, and why a write is refused, past the tightly coupled
 -- memories

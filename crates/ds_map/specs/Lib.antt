@@ -1,8 +1,11 @@
 pub mod Maps
+pub mod MapLaws
 pub mod Accesses
 pub mod Views
 pub mod Waits
 pub mod Guards
 pub mod Moves
 pub mod Shares
+pub mod ShareLaws
 pub mod ObservedPorts
+pub mod Looks

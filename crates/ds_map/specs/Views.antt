@@ -57,14 +57,12 @@ tcm_written Past r at width value = record r { map = map_written Nine r.now r.ma
 
 -- what a read leaves, and why a write is refused, there
 abbrev pub tcm_read : Tcm → NineReach → ℕ → Width → NineReach
-tcm_read (Itcm place) r at width = r
-tcm_read (Dtcm place) r at width = r
 tcm_read Past r at width = record r { map = map_read Nine r.now r.map at width }
+tcm_read tcm r at width = r
 
 abbrev pub tcm_refusal : Tcm → NineReach → ℕ → Width → ℕ → Option Stop
-tcm_refusal (Itcm place) r at width value = None
-tcm_refusal (Dtcm place) r at width value = None
 tcm_refusal Past r at width value = map_refusal Nine r.map at width value
+tcm_refusal tcm r at width value = None
 
 -- ARM9's: ITCM, then DTCM, then the map; fetches see ITCM alone
 abbrev pub nine_memory : MemoryMachine NineReach

@@ -19,9 +19,8 @@ wait_at proc wramcnt at width = wait_of proc (place_of proc wramcnt at) width
 
 -- ARM9's accesses don't wait where a tightly coupled memory answers
 abbrev pub tcm_wait : Tcm → ℕ → ℕ → Width → ℕ
-tcm_wait (Itcm place) wramcnt at width = 0
-tcm_wait (Dtcm place) wramcnt at width = 0
 tcm_wait Past wramcnt at width = wait_at Nine wramcnt at width
+tcm_wait tcm wramcnt at width = 0
 
 abbrev pub nine_wait : NineReach → Access → ℕ
 nine_wait r (Fetch at width) = tcm_wait (tcm_of r.cp15 at false true) r.map.io.wramcnt at width

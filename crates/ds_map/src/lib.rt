@@ -15,7 +15,8 @@
 //! A bus answers in every state, and the list of what waits for geometry has a fixed size: so `write` and ARM9's bus ignore a write of a port for
 //! want of room (`map_guarded`, `guarded_memory`), and `put` is told that there is some. `move_unit` moves a channel's unit, which reaches the map
 //! alone, where there is room: read, taken with its two waits (`unit_waits`), written, or refused and still in the plan (`unit_moved`,
-//! `unit_refusal`). Memory is taken in `Map::new` alone.
+//! `unit_refusal`). `look` and `looked_by_nine` tell what a read would give, where anything answers, and take all by `&`, so that nothing is read
+//! (specs/Looks.antt). Memory is taken in `Map::new` alone.
 #![tactic(auto)]
 
 mod blocks;
@@ -24,5 +25,5 @@ mod moves;
 mod views;
 
 pub use blocks::Block;
-pub use maps::{Given, Map, wait_at};
+pub use maps::{Given, Map, looked_by_nine, wait_at};
 pub use views::{NineView, SevenView, fetched_by_nine};

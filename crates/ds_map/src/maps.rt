@@ -11,7 +11,8 @@ ghost use Rattle.cp15_tcm.specs.TightlyCoupled.{main_first, main_last};
 ghost use Rattle.ds_base.specs.declared.processors.Proc.{Proc};
 ghost use Rattle.ds_base.specs.declared.ticks.Tick.{Tick};
 ghost use Rattle.ds_ports.specs.Io.{IoState};
-ghost use Rattle.ds_map.specs.Maps.{blank_memories, cells_of, is_reached, map_seen, reached, reaches, unreached_oam, unreached_palette, unreached_wram, with_cells};
+ghost use Rattle.ds_map.specs.MapLaws.{blank_memories, is_reached, map_seen, reached, reaches, unreached_oam, unreached_palette, unreached_wram};
+ghost use Rattle.ds_map.specs.Maps.{cells_of, with_cells};
 ghost use Rattle.ds_base.specs.Schedules.{IsEarly};
 ghost use Rattle.ds_ports.specs.Io.{video_done};
 ghost use Rattle.video2d.specs.Scans.{scan_due};
@@ -20,14 +21,18 @@ ghost use Rattle.ds_map.specs.Accesses.{cell_put, fetched_at, is_byte_of_nine, a
 ghost use Rattle.ds_map.specs.Waits.{wait_at};
 ghost use Rattle.ds_map.specs.Guards.{guarded_at, guarded_refusal_at, is_guarded, map_guarded, map_guarded_refusal};
 
+mod looks;
+
 use crate::blocks::Block;
 use ds_base::{
-    MAIN_BYTES, Memory, OAM_BYTES, OWN7_BYTES, PALETTE_BYTES, Proc, SHARED_BYTES, Stop, Tick, Width,
+    MAIN_BYTES, Memory, OAM_BYTES, OWN7_BYTES, PALETTE_BYTES, Proc, SHARED_BYTES, Stop, Tick,
+    Width, known,
 };
 use ds_places::{
     MAIN_FIRST, Place, is_main, main_cell, memory_wait, own_cell, place, port_at, rom_word, wait,
 };
 use ds_ports::{Io, part};
+pub use looks::looked_by_nine;
 use std::alloc::{AllocError, Global};
 use std::marker::Model;
 use video2d::Shown;
@@ -100,11 +105,11 @@ impl Map {
         ensures palette { length self.now.palette ≡ memory_size Palette }
         ensures oam { length self.now.oam ≡ memory_size Oam }
     {
-        let _ = self.main.bytes();
-        let _ = self.shared.bytes();
-        let _ = self.wram.bytes();
-        let _ = self.palette.bytes();
-        let _ = self.oam.bytes();
+        known!(self.main.bytes());
+        known!(self.shared.bytes());
+        known!(self.wram.bytes());
+        known!(self.palette.bytes());
+        known!(self.oam.bytes());
     }
 
     /// The number at a cell of a memory, aligned down.
@@ -520,7 +525,7 @@ fn cell_wait(proc: Proc, memory: Memory, at: u32, width: Width) -> u32
     ensures value { result ≡ wait_of proc (Cell memory at) width }
     ensures most { result ≤ 8 }
 {
-    let _ = at;
+    known!(at);
     memory_wait(proc, memory, width)
 }
 

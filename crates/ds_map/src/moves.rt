@@ -6,7 +6,7 @@ ghost use Rattle.ds_dma.specs.States.{dma_due};
 ghost use Rattle.ds_dma.specs.States.{most_waits};
 ghost use Rattle.ds_map.specs.Accesses.{map_value};
 ghost use Rattle.ds_map.specs.Moves.{unit_moved, unit_read, unit_refusal, unit_waits};
-ghost use Rattle.ds_map.specs.Maps.{map_seen, unreached_oam, unreached_palette, unreached_wram};
+ghost use Rattle.ds_map.specs.MapLaws.{map_seen, unreached_oam, unreached_palette, unreached_wram};
 ghost use Rattle.ds_ports.specs.Guards.{is_overfull};
 ghost use Rattle.ds_ports.specs.Io.{io_of};
 

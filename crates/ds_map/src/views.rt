@@ -4,7 +4,7 @@ ghost use Rattle.std.specs.Prelude.{◌≡◌, ◌≤◌, ◌+◌, ◌%◌, ◌^
 ghost use Rattle.ds_base.specs.Schedules.{IsEarly};
 ghost use Rattle.ds_base.specs.declared.ticks.Tick.{Tick};
 ghost use Rattle.ds_base.specs.declared.processors.Proc.TheVariants.{Nine, Seven};
-ghost use Rattle.ds_map.specs.Maps.{map_seen};
+ghost use Rattle.ds_map.specs.MapLaws.{map_seen};
 ghost use Rattle.ds_map.specs.Views.{nine_memory};
 ghost use Rattle.ds_map.specs.Waits.{tcm_wait};
 ghost use Rattle.cp15_tcm.specs.TightlyCoupled.{tcm_of};
@@ -32,7 +32,7 @@ pub struct SevenView<'a> {
 
 impl Bus for SevenView<'_> {
     ghost use Rattle.std.specs.Prelude.{◌∷◌};
-    ghost use Rattle.ds_map.specs.Maps.{map_seen, unreached};
+    ghost use Rattle.ds_map.specs.MapLaws.{map_seen, unreached};
     ghost use Rattle.ds_map.specs.Views.{SevenReach, seven_memory};
     ghost use Rattle.ds_map.specs.Waits.{Waited, seven_wait, waiting};
 
@@ -148,7 +148,7 @@ pub struct NineView<'a> {
 
 impl Bus for NineView<'_> {
     ghost use Rattle.std.specs.Prelude.{◌∷◌};
-    ghost use Rattle.ds_map.specs.Maps.{map_seen, unreached};
+    ghost use Rattle.ds_map.specs.MapLaws.{map_seen, unreached};
     ghost use Rattle.ds_map.specs.Guards.{guarded_memory};
     ghost use Rattle.ds_map.specs.Views.{NineReach};
     ghost use Rattle.ds_map.specs.Waits.{Waited, nine_wait, waiting};

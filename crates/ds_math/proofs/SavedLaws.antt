@@ -5,7 +5,7 @@ use Rattle.ds_math.specs.Roots.{RootState, IsRootUnit}
 use Rattle.ds_math.specs.Saved.{DividersAreSaved, RootsAreSaved, divider_format, root_format}
 use Rattle.ds_base.specs.Schedules.{due_number}
 use Rattle.ds_state.specs.Formats.{soon}
-use Rattle.ds_state.specs.Laws.{IsExact, StandsFor}
+use Rattle.ds_state.proofs.Standing.{IsExact, StandsFor}
 use Rattle.ds_state.proofs.Exact.{one_spelling, round_trips}
 use Rattle.ds_state.proofs.Soon.{soon_fits}
 

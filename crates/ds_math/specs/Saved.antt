@@ -3,7 +3,7 @@ use Rattle.ds_base.specs.Schedules.{due_number, numbered_due}
 use Rattle.ds_math.specs.Dividers.{DividerState, IsDivider}
 use Rattle.ds_math.specs.Roots.{RootState, IsRootUnit}
 use Rattle.ds_state.specs.Formats.{Format, number_code, flag_code, tick, done, ◌>>=◌, one_field, any, at_most, soon}
-use Rattle.ds_state.specs.Laws.{OneSpelling, RoundTrips}
+use Rattle.ds_state.specs.FormatLaws.{OneSpelling, RoundTrips}
 
 -- The units' states in bytes: each register as it stands, and the due tick of what runs.
 

@@ -27,24 +27,18 @@ waits_by_width half = record { nine = half; nine_word = half + half; seven = hal
 abbrev pub region_waits : Place → RegionWaits
 region_waits (Cell Main at) = waits_by_processor 4 8
 region_waits (Cell Shared at) = waits_by_processor 2 0
-region_waits (Cell Own7 at) = waits_by_processor 0 0
-region_waits (Cell Itcm at) = waits_by_processor 0 0
-region_waits (Cell Dtcm at) = waits_by_processor 0 0
 region_waits (Cell Palette at) = waits_by_width 2
 region_waits (Cell Vram at) = waits_by_width 2
 region_waits (Cell Oam at) = waits_by_width 2
 region_waits (Banks space at) = waits_by_width 2
 region_waits (Port at) = waits_by_processor 2 0
-region_waits (Rom at) = waits_by_processor 0 0
-region_waits Nothing = waits_by_processor 0 0
+region_waits place = waits_by_processor 0 0
 
 abbrev pub chosen_wait : Proc → Width → RegionWaits → ℕ
-chosen_wait Nine Byte waits = waits.nine
-chosen_wait Nine Half waits = waits.nine
 chosen_wait Nine Word waits = waits.nine_word
-chosen_wait Seven Byte waits = waits.seven
-chosen_wait Seven Half waits = waits.seven
+chosen_wait Nine width waits = waits.nine
 chosen_wait Seven Word waits = waits.seven_word
+chosen_wait Seven width waits = waits.seven
 
 -- how long an access of a width by a processor waits at a place
 abbrev pub wait_of : Proc → Place → Width → ℕ

@@ -1,12 +1,6 @@
-use Rattle.std.proofs.Common.{ℕ, ◌≡◌, ◌*◌, ◌^◌, ◌==◌, Option, ap, arith}
-use Rattle.ds_base.specs.declared.ticks.Tick.{Tick}
-use Rattle.ds_runs.specs.declared.actors.Actor.TheVariants.{Geometry}
-use Rattle.gx_fifo.specs.GxPorts.{gx_port}
-use Rattle.gx_fifo.specs.GxStates.{GxState, gx_kept, kept_port}
-use Rattle.ds_ports.specs.Acting.{acting_io_due, first_acting_io_due}
+use Rattle.ds_ports.proofs.Words.{ℕ, ◌≡◌, ◌*◌, ◌^◌, ◌==◌, Option, ap, arith, Tick, Geometry, gx_port, GxState, gx_kept, kept_port, acting_io_due}
+use Rattle.ds_ports.proofs.Words.{first_acting_io_due, first_with, IoState}
 use Rattle.ds_ports.specs.Dues.{first_io_due}
-use Rattle.ds_ports.specs.Inside.{first_with}
-use Rattle.ds_ports.specs.Io.{IoState}
 
 -- The first of what is due behind the ports, and of what acts of it; and what is asked of GXSTAT.
 

@@ -1,25 +1,14 @@
-use Rattle.std.specs.Prelude.{◌||◌}
-use Rattle.std.proofs.Common.{ℕ, zero, suc, ◌≡◌, ◌<◌, ◌≤◌, ◌+◌, ◌-◌, ◌/◌, ◌%◌, inl, inr, ◌==◌, ◌&&◌, not, Bool, true, false, true≢false, if◌then◌else◌, List, [], ◌∷◌, length, map, slice_set, Some, None, refl, sym, ◌∙◌, ap, subst, arith, rules, length-set}
+use Rattle.ds_ports.proofs.Words.{◌||◌, ℕ, zero, suc, ◌≡◌, ◌<◌, ◌≤◌, ◌+◌, ◌-◌, ◌/◌, ◌%◌, inl, inr, ◌==◌, Bool, true, false, true≢false, if◌then◌else◌}
+use Rattle.ds_ports.proofs.Words.{List, [], ◌∷◌, length, slice_set, Some, None, refl, sym, ◌∙◌, ap, subst, arith, both, equal, one_of, width_bytes}
+use Rattle.ds_ports.proofs.Words.{Width, Proc, Nine, Seven, Tick, ChannelState, after_unit, is_last_of_burst, is_last_unit, is_triggered, triggered}
+use Rattle.ds_ports.proofs.Words.{is_armed_again, is_enabled, waits_for, DmaState, channel_at, dma_finished, dma_triggered, due_channel}
+use Rattle.ds_ports.proofs.Words.{least_running, Cause, is_armed, IoState, port_read, port_written, PortRow, register_map, row_bytes, slot_in}
+use Rattle.ds_ports.proofs.Words.{slot_of, after_write, Register, Dmasad, Dmadad, Dmacnt, DmaNine}
+use Rattle.std.proofs.Common.{◌&&◌, not, map, rules, length-set}
 use Rattle.std.proofs.lemmas.List.{length-map}
-use Rattle.ds_base.proofs.Choices.{both, equal, one_of}
-use Rattle.ds_base.specs.Numbers.{width_bytes}
-use Rattle.ds_base.specs.declared.memories.Width.{Width}
-use Rattle.ds_base.specs.declared.processors.Proc.{Proc}
-use Rattle.ds_base.specs.declared.processors.Proc.TheVariants.{Nine, Seven}
-use Rattle.ds_base.specs.declared.ticks.Tick.{Tick}
-use Rattle.ds_dma.specs.Channels.{ChannelState, after_unit, armed_again, emptied, is_last_of_burst, is_last_unit, is_triggered, rest_of, triggered}
-use Rattle.ds_dma.specs.Controls.{disabled, burst_of, is_armed_again, is_enabled, kept_address, waits_for}
-use Rattle.ds_dma.specs.States.{DmaState, channel_at, dma_finished, dma_triggered, due_channel, least_running}
-use Rattle.ds_dma.specs.declared.controls.Cause.{Cause}
+use Rattle.ds_dma.specs.Channels.{armed_again, emptied, rest_of}
+use Rattle.ds_dma.specs.Controls.{disabled, burst_of, kept_address}
 use Rattle.ds_dma.specs.declared.controls.Cause.TheVariants.{Geometry}
-use Rattle.ds_ports.specs.Acting.{is_armed}
-use Rattle.ds_ports.specs.Io.{IoState}
-use Rattle.ds_ports.specs.Ports.{port_read, port_written}
-use Rattle.ds_ports.specs.RegisterMap.{PortRow, register_map, row_bytes, slot_in, slot_of}
-use Rattle.ds_ports.specs.Registers.{after_write}
-use Rattle.ds_ports.specs.declared.registers.Register.{Register}
-use Rattle.ds_ports.specs.declared.registers.Register.TheVariants.{Dmasad, Dmadad, Dmacnt}
-use Rattle.ds_ports.specs.Touches.{DmaNine}
 use Rattle.ds_ports.proofs.Covered.{Of, OfKind, covers, covers_all, write_leaves}
 use Rattle.ds_ports.proofs.Passed.{keeps_part, read_left, row_leaves, write_left}
 use Rattle.ds_ports.proofs.RegisterMaps.{each_place, of_place, slot_by_all}

@@ -1,17 +1,9 @@
-use Rattle.std.proofs.Common.{ℕ, ◌≡◌, ◌<◌, ◌≤◌, ◌+◌, ◌-◌, ◌*◌, ◌/◌, ◌%◌, ◌^◌, ◌⊎◌, inl, inr, true, nat_le, Option, Some, None, refl, sym, ◌∙◌, ap, subst, arith}
-use Rattle.std.specs.Prelude.{IfSome}
+use Rattle.ds_ports.proofs.Words.{ℕ, ◌≡◌, ◌<◌, ◌≤◌, ◌+◌, ◌-◌, ◌*◌, ◌/◌, ◌%◌, ◌^◌, ◌⊎◌, inl, inr, true, nat_le, Option, Some, None, refl, sym, ◌∙◌, ap}
+use Rattle.ds_ports.proofs.Words.{subst, arith, IfSome, none-some, same_Some, Width, Byte, Half, Word, width_bytes, Stop, Proc, Tick, first_stop}
+use Rattle.ds_ports.proofs.Words.{half_refusal, half_written, port_half, port_read, port_refusal, port_value, port_word, port_written, slot_read}
+use Rattle.ds_ports.proofs.Words.{read_or, refusal_or, whole_in, word_refusal, word_written, written_or, IsWidth, StandsWhole, slot_of, IoState, Slot}
 use Rattle.std.proofs.Math.Nat.{div-div-eq-div-mul}
-use Rattle.std.proofs.lemmas.Option.{none-some, same_Some}
-use Rattle.ds_base.specs.declared.memories.Width.{Width}
-use Rattle.ds_base.specs.declared.memories.Width.TheVariants.{Byte, Half, Word}
-use Rattle.ds_base.specs.Numbers.{width_bytes}
-use Rattle.ds_base.specs.declared.left_out.Stop.{Stop}
-use Rattle.ds_base.specs.declared.processors.Proc.{Proc}
-use Rattle.ds_base.specs.declared.ticks.Tick.{Tick}
-use Rattle.ds_ports.specs.Ports.{GoesAscending, ascending, begun_refusal, begun_value, begun_written, first_refusal, first_stop, half_refusal, half_written, port_half, port_read, port_refusal, port_value, port_word, port_written, slot_read, read_or, refusal_or, values_from, whole_in, word_refusal, word_written, written_or}
-use Rattle.ds_ports.specs.RegisterMap.{IsWidth, StandsWhole, slot_of}
-use Rattle.ds_ports.specs.Io.{IoState}
-use Rattle.ds_ports.specs.declared.registers.Slot.{Slot}
+use Rattle.ds_ports.specs.Ports.{GoesAscending, ascending, begun_refusal, begun_value, begun_written, first_refusal, values_from}
 use Rattle.ds_ports.proofs.Together.{stands_whole}
 
 -- An access that lies in no one register is one of each register that begins in it, whole, in ascending address.

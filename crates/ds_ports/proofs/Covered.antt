@@ -1,18 +1,11 @@
-use Rattle.std.proofs.Common.{ℕ, ◌≡◌, ◌<◌, ◌+◌, ◌-◌, ◌*◌, ◌/◌, ◌^◌, inl, inr, Bool, true, false, true≢false, if◌then◌else◌, Option, Some, None, refl, sym, ◌∙◌, ap, subst, arith}
-use Rattle.std.specs.Prelude.{◌||◌, IfSome}
-use Rattle.ds_base.proofs.Choices.{either, never, one_of}
-use Rattle.ds_base.specs.Numbers.{width_bytes}
-use Rattle.ds_base.specs.declared.left_out.Stop.{Stop}
-use Rattle.ds_base.specs.declared.memories.Width.{Width}
-use Rattle.ds_base.specs.declared.memories.Width.TheVariants.{Byte, Half, Word}
-use Rattle.ds_base.specs.declared.processors.Proc.{Proc}
-use Rattle.ds_base.specs.declared.ticks.Tick.{Tick}
-use Rattle.ds_ports.specs.Io.{IoState}
-use Rattle.ds_ports.specs.Ports.{byte_refusal, byte_written, first_stop, half_refusal, half_written, ignores, part, port_byte, port_half, port_read, port_refusal, port_value, port_word, port_written, read_or, slot_read, refusal_or, slot_joined, slot_refusal, slot_value, slot_written, whole_if, whole_in, with_bytes_from, word_refusal, word_written, written_or}
-use Rattle.ds_ports.specs.RegisterMap.{PortRow, register_map, slot_of}
-use Rattle.ds_ports.specs.Registers.{after_write, meaning_of}
-use Rattle.ds_ports.specs.declared.registers.Register.{Register}
-use Rattle.ds_ports.specs.declared.registers.Slot.{Slot}
+use Rattle.ds_ports.proofs.Words.{ℕ, ◌≡◌, ◌<◌, ◌+◌, ◌-◌, ◌*◌, ◌/◌, ◌^◌, inl, inr, Bool, true, false, true≢false, if◌then◌else◌, Option, Some, None}
+use Rattle.ds_ports.proofs.Words.{refl, sym, ◌∙◌, ap, subst, arith, ◌||◌, IfSome, either, one_of, width_bytes, Stop, Width, Byte, Half, Word, Proc}
+use Rattle.ds_ports.proofs.Words.{Tick, IoState, byte_written, first_stop, half_refusal, half_written, ignores, part, port_half, port_read}
+use Rattle.ds_ports.proofs.Words.{port_refusal, port_value, port_word, port_written, read_or, slot_read, refusal_or, slot_joined, slot_refusal}
+use Rattle.ds_ports.proofs.Words.{slot_value, slot_written, whole_if, whole_in, with_bytes_from, word_refusal, word_written, written_or, PortRow}
+use Rattle.ds_ports.proofs.Words.{register_map, slot_of, after_write, meaning_of, Register, Slot}
+use Rattle.ds_base.proofs.Choices.{never}
+use Rattle.ds_ports.specs.Ports.{byte_refusal, port_byte}
 use Rattle.ds_ports.proofs.RegisterMaps.{all_rows, each_place, lies_in, of_place, slot_by_all}
 
 -- A law of the registers of which an access covers bytes is a law of the access.

@@ -1,14 +1,9 @@
-use Rattle.std.proofs.Common.{ℕ, ◌≡◌, List, refl, ◌∙◌, ap}
-use Rattle.ds_base.specs.declared.memories.Width.{Width}
-use Rattle.ds_base.specs.declared.memories.Width.TheVariants.{Byte, Half, Word}
-use Rattle.ds_base.specs.declared.processors.Proc.{Proc}
-use Rattle.ds_base.specs.declared.processors.Proc.TheVariants.{Nine, Seven}
+use Rattle.ds_ports.proofs.Words.{ℕ, ◌≡◌, List, refl, ◌∙◌, ap, Width, Byte, Half, Word, Proc, Nine, Seven, ScanState, VideoState, video_written, B}
 use Rattle.video2d.specs.Engines.{EngineState}
 use Rattle.video2d.specs.Ports.{video_port}
-use Rattle.video2d.specs.Scans.{ScanState}
-use Rattle.video2d.specs.Videos.{VideoState, video_byte_written, video_byte_written_by, video_written, with_engine}
+use Rattle.video2d.specs.Videos.{video_byte_written, video_byte_written_by, with_engine}
 use Rattle.video2d.specs.declared.engines.Engine.{Engine}
-use Rattle.video2d.specs.declared.engines.Engine.TheVariants.{A, B}
+use Rattle.video2d.specs.declared.engines.Engine.TheVariants.{A}
 use Rattle.video2d.specs.declared.ports.VideoPort.{VideoPort}
 use Rattle.video2d.specs.declared.ports.VideoPort.TheVariants.{Status, Count, OfEngine, Power, Nothing}
 

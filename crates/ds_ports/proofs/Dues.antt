@@ -1,28 +1,14 @@
-use Rattle.std.specs.Prelude.{◌&&◌, not}
-use Rattle.std.proofs.Common.{ℕ, suc, ◌≡◌, ◌≢◌, ◌+◌, ◌==◌, Bool, true, false, if◌then◌else◌, List, [], ◌∷◌, ◌++◌, Option, Some, None, is_some, refl, ◌∙◌, ap, arith}
-use Rattle.ds_base.specs.declared.memories.Width.TheVariants.{Half, Word}
-use Rattle.ds_base.specs.declared.processors.Proc.{Proc}
-use Rattle.ds_base.specs.declared.processors.Proc.TheVariants.{Nine, Seven}
-use Rattle.ds_base.specs.declared.ticks.Due.{Due}
-use Rattle.ds_base.specs.declared.ticks.Tick.{Tick}
-use Rattle.ds_card.specs.Cards.{card_due}
-use Rattle.ds_dma.specs.Channels.{ready}
-use Rattle.ds_dma.specs.States.{DmaState, channel_at, channel_due, dma_due, due_with}
-use Rattle.ds_dma.specs.declared.dma.DmaDue.{DmaDue}
-use Rattle.ds_runs.specs.declared.actors.Actor.TheVariants.{Video}
-use Rattle.ds_runs.specs.Order.{due_with_rank, earlier, first_from}
+use Rattle.ds_ports.proofs.Words.{◌&&◌, not, ℕ, suc, ◌≡◌, ◌≢◌, ◌+◌, ◌==◌, Bool, true, false, if◌then◌else◌, List, [], ◌∷◌, ◌++◌, Option, Some, None}
+use Rattle.ds_ports.proofs.Words.{is_some, refl, ◌∙◌, ap, arith, Half, Word, Proc, Nine, Seven, Due, Tick, card_due, ready, DmaState, channel_at}
+use Rattle.ds_ports.proofs.Words.{channel_due, dma_due, due_with, DmaDue, Video, first_from, timer_at, timer_due, first_acting_io_due, io_due}
+use Rattle.ds_ports.proofs.Words.{first_with, moves_dues, ProcessorIoState, keys_hold, keys_told, after_write, meaning_of, word_received, word_sent}
+use Rattle.ds_ports.proofs.Words.{IoState, keys_pressed, io_of, with_halted, with_io_of, UnitPart, among, beyond, changes_some, io_graft, Register}
+use Rattle.ds_ports.proofs.Words.{DisplayHalf, DisplayWord, Ipcfiforecv, CardData, Banks}
+use Rattle.ds_runs.specs.OrderLaws.{due_with_rank, earlier}
 use Rattle.ds_runs.proofs.Firsts.{first_of_append}
-use Rattle.ds_timers.specs.Timing.{timer_at, timer_due}
-use Rattle.ds_ports.specs.Acting.{first_acting_io_due}
-use Rattle.ds_ports.specs.Dues.{dma_due_in, io_due}
-use Rattle.ds_ports.specs.Inside.{first_with, moves_dues, moving_parts}
-use Rattle.ds_ports.specs.ProcessorIo.{ProcessorIoState, keys_hold, keys_told}
-use Rattle.ds_ports.specs.Registers.{after_write, meaning_of, word_received, word_sent}
-use Rattle.ds_ports.specs.Io.{IoState, keys_pressed, io_of, with_halted, with_io_of}
-use Rattle.ds_ports.specs.Touches.{UnitPart, Display, among, beyond, changes_some, io_graft}
-use Rattle.ds_ports.specs.declared.registers.Register.{Register}
-use Rattle.ds_ports.specs.declared.registers.Register.TheVariants.{DisplayHalf, DisplayWord, Ipcfiforecv, CardData}
-use Rattle.vram_banks.specs.Cells.{Banks}
+use Rattle.ds_ports.specs.Dues.{dma_due_in}
+use Rattle.ds_ports.specs.Inside.{moving_parts}
+use Rattle.ds_ports.specs.Touches.{Display}
 use Rattle.ds_ports.proofs.DisplayPorts.{written_scan}
 use Rattle.ds_ports.proofs.Passed.{first_false, stays_by_row}
 

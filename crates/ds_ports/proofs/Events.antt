@@ -1,41 +1,25 @@
-use Rattle.std.proofs.Common.{ℕ, ◌≡◌, ◌<◌, ◌≤◌, inl, inr, Bool, true, false, true≢false, if◌then◌else◌, List, Option, Some, None, refl, sym, ◌∙◌, ap, subst, arith}
-use Rattle.std.specs.Prelude.{◌||◌, ◌&&◌, ◌==◌, IsSome}
-use Rattle.std.proofs.lemmas.Option.{none-some}
-use Rattle.ds_base.proofs.Choices.{either}
-use Rattle.ds_base.specs.Schedules.{IsLater, Reschedules}
-use Rattle.ds_base.specs.declared.left_out.Stop.{Stop}
-use Rattle.ds_base.specs.declared.processors.Proc.{Proc}
-use Rattle.ds_base.specs.declared.processors.Proc.TheVariants.{Nine, Seven}
-use Rattle.ds_base.specs.declared.ticks.Tick.{Tick}
-use Rattle.ds_dma.specs.Channels.{ready}
-use Rattle.ds_card.specs.Cards.{CardState, card_after_event, card_due, card_starter, event_readies}
-use Rattle.ds_card.proofs.Schedules.{event_ends}
-use Rattle.ds_dma.specs.States.{AreReadyLater, DmaState, IsDma, any_runs, channel_at, channel_due, dma_due, dma_finished, due_channel, due_with, least_running, most_waits}
-use Rattle.ds_dma.specs.declared.controls.Cause.{Cause}
-use Rattle.ds_dma.specs.declared.controls.Cause.TheVariants.{VBlank, HBlank}
+use Rattle.ds_ports.proofs.Words.{ℕ, ◌≡◌, ◌<◌, ◌≤◌, inl, inr, Bool, true, false, true≢false, if◌then◌else◌, List, Option, Some, None, refl, sym, ◌∙◌}
+use Rattle.ds_ports.proofs.Words.{ap, subst, arith, ◌||◌, ◌&&◌, IsSome, none-some, either, IsLater, Reschedules, Stop, Proc, Nine, Seven, Tick, ready}
+use Rattle.ds_ports.proofs.Words.{CardState, card_after_event, card_due, card_starter, event_readies, event_ends, AreReadyLater, DmaState, IsDma}
+use Rattle.ds_ports.proofs.Words.{any_runs, channel_at, channel_due, dma_due, dma_finished, due_channel, due_with, least_running, most_waits, Cause}
+use Rattle.ds_ports.proofs.Words.{VBlank, HBlank, all_later, event_schedules, dma_finished_is, dma_triggered_is, event_runs, other_proc, IsNumbered}
+use Rattle.ds_ports.proofs.Words.{KeyScript, Video, Timer, Divider, SquareRoot, Geometry, Card, Dma, Processor, TimerState, overflow_of, timer_at}
+use Rattle.ds_ports.proofs.Words.{timer_due, one_reschedules, overflow_keeps, held_due, io_due, IsIo, IsUnchanged, IsProcessorIo, ReschedulesEach}
+use Rattle.ds_ports.proofs.Words.{ProcessorIoState, blocks_processor, processor_io_moved, processor_io_raised, processor_io_triggered, IoState}
+use Rattle.ds_ports.proofs.Words.{both_raised, card_done, card_done_at, starter_told, told_of_card, channel_moved, channels_shown, channels_triggered}
+use Rattle.ds_ports.proofs.Words.{division_done, io_event, io_of, keys_pressed, root_done, shown_to_others, timer_overflows, video_done, with_io_of}
+use Rattle.ds_ports.proofs.Words.{AreWaiting, is_stalled, Raised, ScanState, scan_after, scan_due, scan_due_tick, VideoState, unless_stop}
+use Rattle.ds_ports.proofs.Words.{video_after_event, video_happened, video_shown, video_stop, Shown, Banks}
+use Rattle.std.specs.Prelude.{◌==◌}
 use Rattle.ds_dma.specs.declared.controls.Cause.TheVariants as causes
-use Rattle.ds_dma.proofs.Turns.{all_later, event_schedules, finished_later}
-use Rattle.ds_dma.proofs.Wholes.{dma_finished_is, dma_triggered_is, event_runs}
-use Rattle.ds_ipc.specs.Ipcs.{other_proc}
-use Rattle.ds_runs.specs.Actors.{IsNumbered}
+use Rattle.ds_dma.proofs.Turns.{finished_later}
 use Rattle.ds_runs.specs.declared.actors.Actor as actor
-use Rattle.ds_runs.specs.declared.actors.Actor.TheVariants.{KeyScript, Video, Timer, Divider, SquareRoot, Geometry, Card, Dma, Processor}
-use Rattle.ds_timers.specs.Timing.{TimerState, overflow_of, timer_at, timer_due}
-use Rattle.ds_timers.proofs.Four.{one_reschedules}
-use Rattle.ds_timers.proofs.Overflowed.{overflow_keeps, overflow_schedules}
-use Rattle.ds_ports.specs.Dues.{held_due, io_due}
-use Rattle.ds_ports.specs.Happenings.{IsIo, IsUnchanged, IsProcessorIo, ReschedulesEach}
+use Rattle.ds_timers.proofs.Overflowed.{overflow_schedules}
 use Rattle.ds_ports.proofs.HeldDues.{held_reschedules}
-use Rattle.ds_ports.specs.ProcessorIo.{ProcessorIoState, blocks_processor, processor_io_moved, processor_io_raised, processor_io_triggered}
-use Rattle.ds_ports.specs.Io.{IoState, both_raised, card_done, card_done_at, starter_told, told_of_card, channel_moved, channels_shown, channels_triggered, division_done, io_event, io_of, keys_pressed, root_done, shown_to_others, timer_overflows, video_done, with_io_of}
 use Rattle.ds_ports.proofs.Later.{ProcessorIoReschedules, card_each, divider_each, each_processor_io, in_turn, io_is, processor_io_across, processor_io_each, processor_io_is, processor_io_there, raised_unchanged, root_each, told_unchanged, unchanged_is, unchanged_same}
-use Rattle.gx_fifo.specs.GxStates.{AreWaiting, is_stalled}
-use Rattle.ds_base.specs.declared.processors.Raised.{Raised}
-use Rattle.video2d.specs.Scans.{ScanState, blanks_drawn_line, line_after, scan_after, scan_due, scan_due_tick, starts_vblank}
+use Rattle.video2d.specs.Scans.{blanks_drawn_line, line_after, starts_vblank}
 use Rattle.video2d.specs.Engines.{points_stepped}
-use Rattle.video2d.specs.Videos.{VideoState, hblank_set, line_drawn, unless_stop, video_after_event, video_blanked, video_happened, video_line_started, video_shown, video_stop}
-use Rattle.video2d.specs.declared.videos.Shown.{Shown}
-use Rattle.vram_banks.specs.Cells.{Banks}
+use Rattle.video2d.specs.Videos.{hblank_set, line_drawn, video_blanked, video_line_started}
 
 -- What the events of the actors behind the ports make of the units, each at the tick at which it is due.
 

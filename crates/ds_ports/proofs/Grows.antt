@@ -1,26 +1,12 @@
-use Rattle.std.proofs.Common.{ℕ, ◌≡◌, ◌≤◌, ◌+◌, ◌-◌, ◌/◌, ◌^◌, Bool, true, false, true≢false, ◌&&◌, nat_lt, if◌then◌else◌, Option, Some, None, refl, sym, ◌∙◌, ap, subst, arith}
-use Rattle.std.specs.Prelude.{IfSome, not}
-use Rattle.ds_base.proofs.Choices.{either}
-use Rattle.ds_base.specs.declared.left_out.Stop.{Stop}
-use Rattle.ds_base.specs.declared.memories.Width.{Width}
-use Rattle.ds_base.specs.declared.memories.Width.TheVariants.{Byte, Half, Word}
-use Rattle.ds_base.specs.declared.processors.Proc.{Proc}
-use Rattle.ds_base.specs.declared.processors.Proc.TheVariants.{Nine, Seven}
-use Rattle.ds_base.specs.declared.ticks.Tick.{Tick}
-use Rattle.gx_fifo.specs.declared.ports.GxPort.{GxPort}
-use Rattle.gx_fifo.specs.declared.ports.GxPort.TheVariants.{Display, Fifo, Direct, Status, Lengths, Position, Vector, Clip, VectorMatrix, Unlisted}
-use Rattle.gx_fifo.specs.GxPorts.{gx_port}
-use Rattle.gx_fifo.specs.GxStates.{AreWaiting, GxState, waiting_entries, write_port}
+use Rattle.ds_ports.proofs.Words.{ℕ, ◌≡◌, ◌≤◌, ◌+◌, ◌-◌, ◌/◌, ◌^◌, Bool, true, false, true≢false, nat_lt, if◌then◌else◌, Option, Some, None, refl}
+use Rattle.ds_ports.proofs.Words.{sym, ◌∙◌, ap, subst, arith, IfSome, not, either, Stop, Width, Byte, Half, Word, Proc, Nine, Seven, Tick, GxPort}
+use Rattle.ds_ports.proofs.Words.{Display, Fifo, Direct, Status, Lengths, Position, Vector, Clip, VectorMatrix, Unlisted, gx_port, AreWaiting}
+use Rattle.ds_ports.proofs.Words.{GxState, waiting_entries, write_port, guarded_written, is_overfull, IoState, byte_written, half_written, ignores}
+use Rattle.ds_ports.proofs.Words.{is_narrow, port_refusal, port_written, slot_joined, slot_written, unless_stopped, whole_if, whole_in, word_written}
+use Rattle.ds_ports.proofs.Words.{written_or, PortRow, register_map, slot_of, after_write, gx_set, Register, GxWord, GxCommand, Slot}
+use Rattle.std.proofs.Common.{◌&&◌}
 use Rattle.gx_fifo.proofs.Laws.{written_grows}
-use Rattle.ds_ports.specs.Guards.{guarded_written, is_overfull}
-use Rattle.ds_ports.specs.Io.{IoState}
-use Rattle.ds_ports.specs.Ports.{byte_written, half_written, ignores, is_narrow, port_refusal, port_written, slot_joined, slot_written, unless_stopped, whole_if, whole_in, word_written, written_or}
-use Rattle.ds_ports.specs.RegisterMap.{PortRow, register_map, slot_of}
-use Rattle.ds_ports.specs.Registers.{after_write, gx_set}
 use Rattle.ds_ports.specs.Touches as touches
-use Rattle.ds_ports.specs.declared.registers.Register.{Register}
-use Rattle.ds_ports.specs.declared.registers.Register.TheVariants.{GxWord, GxCommand}
-use Rattle.ds_ports.specs.declared.registers.Slot.{Slot}
 use Rattle.ds_ports.proofs.Passed.{keeps_part, row_leaves}
 use Rattle.ds_ports.proofs.RegisterMaps.{each_place, of_place, slot_by_all}
 

@@ -1,27 +1,13 @@
-use Rattle.std.proofs.Common.{ℕ, ◌≡◌, ◌≢◌, ◌<◌, ◌+◌, ◌&&◌, nat_le, nat_lt, if◌then◌else◌, Bool, true, false, List, Option, Some, None, refl, ◌∙◌, ap, arith}
-use Rattle.std.specs.Prelude.{◌||◌}
-use Rattle.ds_base.specs.Numbers.{width_bytes}
-use Rattle.ds_base.specs.declared.left_out.Stop.{Stop}
-use Rattle.ds_base.specs.declared.memories.Width.{Width}
-use Rattle.ds_base.specs.declared.processors.Proc.{Proc}
-use Rattle.ds_base.specs.declared.processors.Proc.TheVariants.{Nine, Seven}
-use Rattle.ds_base.specs.declared.ticks.Tick.{Tick}
-use Rattle.ds_card.specs.Cards.{card_due, card_starter}
-use Rattle.ds_dma.specs.States.{channel_due}
-use Rattle.ds_dma.specs.declared.controls.Cause.TheVariants.{VBlank, HBlank}
+use Rattle.ds_ports.proofs.Words.{ℕ, ◌≡◌, ◌≢◌, ◌<◌, ◌+◌, nat_le, nat_lt, if◌then◌else◌, Bool, true, false, List, Option, Some, None, refl, ◌∙◌, ap}
+use Rattle.ds_ports.proofs.Words.{arith, ◌||◌, width_bytes, Stop, Width, Proc, Nine, Seven, Tick, card_due, card_starter, channel_due, VBlank, HBlank}
+use Rattle.ds_ports.proofs.Words.{Timer, Geometry, Card, Dma, held_due, io_due, IoState, both_raised, card_done_at, channel_moved, channels_triggered}
+use Rattle.ds_ports.proofs.Words.{io_event, shown_to_others, video_done, with_gx, PortRow, row_bytes, Register, UnitPart, touches_none, is_part}
+use Rattle.ds_ports.proofs.Words.{GxState, is_stalled, scan_due_tick, unless_stop, video_after_event, video_shown, video_stop, Shown}
+use Rattle.std.proofs.Common.{◌&&◌}
 use Rattle.ds_runs.specs.declared.actors.Actor as actor
-use Rattle.ds_runs.specs.declared.actors.Actor.TheVariants.{Timer, Geometry, Card, Dma}
-use Rattle.ds_ports.specs.Dues.{held_due, io_due}
-use Rattle.ds_ports.specs.Io.{IoState, both_raised, card_done_at, channel_moved, channels_triggered, io_at_boot, io_event, shown_to_others, video_done, with_gx}
-use Rattle.ds_ports.specs.RegisterMap.{PortRow, row_bytes}
-use Rattle.ds_ports.specs.declared.registers.Register.{Register}
+use Rattle.ds_ports.specs.Io.{io_at_boot}
 use Rattle.ds_ports.specs.Touches as touches
-use Rattle.ds_ports.specs.Touches.{UnitPart, touches_none, is_part}
 use Rattle.ds_ports.proofs.Covered.{Covers, chosen, covers, covers_all, slot_is}
-use Rattle.gx_fifo.specs.GxStates.{GxState, is_stalled}
-use Rattle.video2d.specs.Scans.{scan_due_tick}
-use Rattle.video2d.specs.Videos.{unless_stop, video_after_event, video_shown, video_stop}
-use Rattle.video2d.specs.declared.videos.Shown.{Shown}
 
 -- What neither sees geometry nor changes it: the registers of all ports but its own, and the units' events but its own.
 

@@ -1,13 +1,8 @@
-use Rattle.std.proofs.Common.{ℕ, ◌≡◌, ◌==◌, inl, inr, Bool, true, false, if◌then◌else◌, [], ◌∷◌, Option, Some, None, is_some, true≢false, refl, sym, ap, arith}
+use Rattle.ds_ports.proofs.Words.{ℕ, ◌≡◌, ◌==◌, inl, inr, Bool, true, false, if◌then◌else◌, [], ◌∷◌, Option, Some, None, is_some, true≢false, refl}
+use Rattle.ds_ports.proofs.Words.{sym, ap, arith, IsLater, Reschedules, Due, Tick, ready, DmaState, channel_at, channel_due, first_from, held_due}
+use Rattle.ds_ports.proofs.Words.{released_at}
 use Rattle.std.specs.Prelude.{max}
 use Rattle.std.proofs.Math.Nat.{le-max_right}
-use Rattle.ds_base.specs.Schedules.{IsLater, Reschedules}
-use Rattle.ds_base.specs.declared.ticks.Due.{Due}
-use Rattle.ds_base.specs.declared.ticks.Tick.{Tick}
-use Rattle.ds_dma.specs.Channels.{ready}
-use Rattle.ds_dma.specs.States.{DmaState, channel_at, channel_due}
-use Rattle.ds_runs.specs.Order.{first_from}
-use Rattle.ds_ports.specs.Dues.{held_due, released_at}
 
 -- When ARM9's channels are due that a stall holds, and that aren't due before a tick.
 

@@ -1,45 +1,25 @@
-use Rattle.std.proofs.Common.{ℕ, ◌≡◌, ◌<◌, ◌≤◌, ◌+◌, ◌%◌, ◌^◌, inl, inr, true, false, List, Option, Some, None, refl, sym, ◌∙◌, ap, subst, arith}
+use Rattle.ds_ports.proofs.Words.{ℕ, ◌≡◌, ◌<◌, ◌≤◌, ◌+◌, ◌%◌, ◌^◌, inl, inr, true, false, List, Option, Some, None, refl, sym, ◌∙◌, ap, subst, arith}
+use Rattle.ds_ports.proofs.Words.{either, bits, IsLater, Reschedules, Stop, Width, Half, Word, Proc, Nine, Seven, Raised, Tick, data_port_at}
+use Rattle.ds_ports.proofs.Words.{CardState, card_after_read, card_due, card_written, read_raised, AreReadyLater, IsDma, channel_due, DmaPort, Source}
+use Rattle.ds_ports.proofs.Words.{Target, Control, all_later, channel_written_is, IpcState, other_proc, DividerState, division_ticks, RootState}
+use Rattle.ds_ports.proofs.Words.{IsNumbered, Video, Timer, Divider, SquareRoot, Geometry, Card, Dma, TimerState, AreTimers, control_set}
+use Rattle.ds_ports.proofs.Words.{kept_control, reload_set, timer_at, timer_due, control_set_is, reload_set_is, one_reschedules, AreWaiting, GxState}
+use Rattle.ds_ports.proofs.Words.{gx_written, is_stalled, waiting_entries, io_due, guarded_written, is_overfull, IsIo, IsTold, IsUnchanged}
+use Rattle.ds_ports.proofs.Words.{IsProcessorIo, ReschedulesEach, ProcessorIoState, dma_written, haltcnt_written, kept_keycnt, keycnt_written}
+use Rattle.ds_ports.proofs.Words.{keys_hold, keys_told, processor_io_raised, port_read, port_refusal, port_written, unless_stopped, IsSlot}
+use Rattle.ds_ports.proofs.Words.{after_write, card_set, card_word_taken, gx_set, meaning_of, IoState, both_raised, io_of, raised_to, with_io_of}
+use Rattle.ds_ports.proofs.Words.{Register, DisplayHalf, DisplayWord, Dmasad, Dmadad, Dmacnt, TmcntL, TmcntH, Keycnt, Ipcsync, Ipcfifocnt}
+use Rattle.ds_ports.proofs.Words.{Ipcfifosend, Ipcfiforecv, Ime, Ie, If, Divcnt, DivNumer, DivDenom, Sqrtcnt, SqrtParam, GxWord, GxCommand, Auxspicnt}
+use Rattle.ds_ports.proofs.Words.{CardWord, CardData, Haltcnt, ScanState, scan_due_tick, VideoState, video_written}
 use Rattle.std.specs.Prelude.{◌==◌}
-use Rattle.ds_base.proofs.Choices.{either}
-use Rattle.ds_base.specs.Bits.{bits}
-use Rattle.ds_base.specs.Schedules.{IsLater, Reschedules}
-use Rattle.ds_base.specs.declared.left_out.Stop.{Stop}
-use Rattle.ds_base.specs.declared.memories.Width.{Width}
-use Rattle.ds_base.specs.declared.memories.Width.TheVariants.{Half, Word}
-use Rattle.ds_base.specs.declared.processors.Proc.{Proc}
-use Rattle.ds_base.specs.declared.processors.Proc.TheVariants.{Nine, Seven}
-use Rattle.ds_base.specs.declared.processors.Raised.{Raised}
-use Rattle.ds_base.specs.declared.ticks.Tick.{Tick}
-use Rattle.ds_card.specs.CardPorts.{data_port_at}
-use Rattle.ds_card.specs.Cards.{CardState, card_after_read, card_due, card_due_for, card_written, read_raised, same_proc}
+use Rattle.ds_card.specs.Cards.{card_due_for, same_proc}
 use Rattle.ds_card.proofs.Schedules.{read_leaves_other, read_schedules, write_leaves_other, write_schedules}
-use Rattle.ds_dma.specs.States.{AreReadyLater, IsDma, channel_due}
-use Rattle.ds_dma.specs.declared.controls.DmaPort.{DmaPort}
-use Rattle.ds_dma.specs.declared.controls.DmaPort.TheVariants.{Source, Target, Control}
-use Rattle.ds_dma.proofs.Turns.{all_later}
-use Rattle.ds_dma.proofs.Wholes.{channel_written_is, channel_written_later}
-use Rattle.ds_ipc.specs.Ipcs.{IpcState, other_proc}
-use Rattle.ds_math.specs.Dividers.{DividerState, division_ticks}
-use Rattle.ds_math.specs.Roots.{RootState}
-use Rattle.ds_runs.specs.Actors.{IsNumbered}
+use Rattle.ds_dma.proofs.Wholes.{channel_written_later}
 use Rattle.ds_runs.specs.declared.actors.Actor as actor
-use Rattle.ds_runs.specs.declared.actors.Actor.TheVariants.{Video, Timer, Divider, SquareRoot, Geometry, Card, Dma}
-use Rattle.ds_timers.specs.Timing.{TimerState, AreTimers, control_set, kept_control, reload_set, timer_at, timer_due}
-use Rattle.ds_timers.proofs.Changed.{control_schedules, control_set_is, reload_leaves, reload_set_is}
-use Rattle.ds_timers.proofs.Four.{one_reschedules}
+use Rattle.ds_timers.proofs.Changed.{control_schedules, reload_leaves}
 use Rattle.gx_fifo.specs.Entries.{most_entries}
-use Rattle.gx_fifo.specs.GxStates.{AreWaiting, GxState, gx_written, is_stalled, waiting_entries}
 use Rattle.gx_fifo.proofs.Laws.{written_run, written_schedules, written_waiting}
-use Rattle.ds_ports.specs.Dues.{io_due}
-use Rattle.ds_ports.specs.Guards.{guarded_written, is_overfull}
-use Rattle.ds_ports.specs.Happenings.{IsIo, IsTold, Goes, LeavesGeometry, LeavesTransfer, IsUnchanged, IsProcessorIo, HasOnlyLaterEvents, ReschedulesEach}
-use Rattle.ds_ports.specs.ProcessorIo.{ProcessorIoState, dma_written, haltcnt_written, kept_keycnt, keycnt_written, keys_hold, keys_told, processor_io_raised}
-use Rattle.ds_ports.specs.Ports.{port_read, port_refusal, port_written, unless_stopped}
-use Rattle.ds_ports.specs.RegisterMap.{IsSlot}
-use Rattle.ds_ports.specs.Registers.{after_write, card_set, card_word_taken, gx_set, meaning_of}
-use Rattle.ds_ports.specs.Io.{IoState, both_raised, io_of, raised_to, with_io_of}
-use Rattle.ds_ports.specs.declared.registers.Register.{Register}
-use Rattle.ds_ports.specs.declared.registers.Register.TheVariants.{DisplayHalf, DisplayWord, Dmasad, Dmadad, Dmacnt, TmcntL, TmcntH, Keycnt, Ipcsync, Ipcfifocnt, Ipcfifosend, Ipcfiforecv, Ime, Ie, If, Divcnt, DivNumer, DivDenom, Sqrtcnt, SqrtParam, GxWord, GxCommand, Auxspicnt, CardWord, CardData, Haltcnt}
+use Rattle.ds_ports.specs.HappeningLaws.{Goes, LeavesGeometry, LeavesTransfer, HasOnlyLaterEvents}
 use Rattle.ds_ports.proofs.Covered.{are_all, read_leaves, write_leaves}
 use Rattle.ds_ports.proofs.Passed.{any_covered, any_register}
 use Rattle.ds_ports.proofs.HeldDues.{held_reschedules, stall_begins}
@@ -47,8 +27,6 @@ use Rattle.ds_ports.proofs.GxPorts.{written_last, written_longer, written_stalls
 use Rattle.ds_ports.proofs.DisplayPorts.{written_scan, written_whole}
 use Rattle.ds_ports.proofs.RegisterMaps.{some_slot}
 use Rattle.ds_ports.proofs.Told.{AreIpcAtBoth, control_ipc, raised_told, receive_ipc, send_ipc, sync_ipc, told_nothing, told_on}
-use Rattle.video2d.specs.Scans.{ScanState, scan_due_tick}
-use Rattle.video2d.specs.Videos.{VideoState, video_written}
 
 -- Accesses make no due tick earlier, and leave each at its tick or later.
 

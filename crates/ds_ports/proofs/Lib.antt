@@ -1,3 +1,4 @@
+mod Words
 pub mod RegisterMaps
 pub mod DisplayRows
 pub mod DisplayPorts

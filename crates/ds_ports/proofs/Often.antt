@@ -1,15 +1,9 @@
-use Rattle.std.proofs.Common.{ℕ, ◌≡◌, ◌<◌, ◌+◌, ◌*◌, ◌/◌, ◌%◌, ◌^◌, Bool, true, false, None, refl, ap, arith}
+use Rattle.ds_ports.proofs.Words.{ℕ, ◌≡◌, ◌<◌, ◌+◌, ◌*◌, ◌/◌, ◌%◌, ◌^◌, Bool, true, false, None, refl, ap, arith, Half, Word, Proc, Nine, Seven, Tick}
+use Rattle.ds_ports.proofs.Words.{part, port_read, port_refusal, port_value, port_written, with_bytes_from, slot_of, word_received, word_sent}
+use Rattle.ds_ports.proofs.Words.{IoState, io_of}
 use Rattle.ds_base.specs.Bits.{flag}
-use Rattle.ds_base.specs.declared.memories.Width.TheVariants.{Half, Word}
-use Rattle.ds_base.specs.declared.processors.Proc.{Proc}
-use Rattle.ds_base.specs.declared.processors.Proc.TheVariants.{Nine, Seven}
-use Rattle.ds_base.specs.declared.ticks.Tick.{Tick}
 use Rattle.ds_ipc.specs.Ipcs.{ipc_control_word, ipc_received_word, ipc_sync_word}
-use Rattle.ds_ports.specs.Ports.{part, port_read, port_refusal, port_value, port_written, with_bytes_from}
 use Rattle.ds_ports.specs.ProcessorIo.{keyinput_word}
-use Rattle.ds_ports.specs.RegisterMap.{slot_of}
-use Rattle.ds_ports.specs.Registers.{word_received, word_sent}
-use Rattle.ds_ports.specs.Io.{IoState, io_of}
 use Rattle.video2d.specs.Statuses.{status_word}
 use Rattle.video2d.specs.Videos.{status_of}
 

@@ -1,11 +1,6 @@
-use Rattle.std.proofs.Common.{ℕ, ◌≡◌, true, true≢false, refl, sym}
-use Rattle.ds_base.specs.declared.processors.Proc.{Proc}
-use Rattle.ds_base.specs.declared.ticks.Tick.{Tick}
+use Rattle.ds_ports.proofs.Words.{ℕ, ◌≡◌, true, true≢false, refl, sym, Proc, Tick, IoState, io_of, with_io_of, after_write, Register, Dmasad, Dmadad}
+use Rattle.ds_ports.proofs.Words.{Dmacnt, TmcntL, TmcntH, Keycnt, Ime, Ie, If, Haltcnt}
 use Rattle.ds_ports.specs.Inside.{is_own, own_written}
-use Rattle.ds_ports.specs.Io.{IoState, io_of, with_io_of}
-use Rattle.ds_ports.specs.Registers.{after_write}
-use Rattle.ds_ports.specs.declared.registers.Register.{Register}
-use Rattle.ds_ports.specs.declared.registers.Register.TheVariants.{Dmasad, Dmadad, Dmacnt, TmcntL, TmcntH, Keycnt, Ime, Ie, If, Haltcnt}
 
 -- A write of a register that is a processor's own changes that alone.
 

@@ -1,28 +1,14 @@
-use Rattle.std.specs.Prelude.{◌&&◌, not}
-use Rattle.std.proofs.Common.{ℕ, ◌≡◌, Bool, true, false, true≢false, if◌then◌else◌, List, [], ◌∷◌, ◌++◌, refl, sym, ◌∙◌, ap}
-use Rattle.ds_base.specs.declared.memories.Width.{Width}
-use Rattle.ds_base.specs.declared.processors.Proc.{Proc}
-use Rattle.ds_base.specs.declared.processors.Proc.TheVariants.{Nine, Seven}
-use Rattle.ds_base.specs.declared.ticks.Tick.{Tick}
-use Rattle.ds_card.specs.Cards.{CardState}
-use Rattle.ds_dma.specs.States.{DmaState}
+use Rattle.ds_ports.proofs.Words.{◌&&◌, not, ℕ, ◌≡◌, Bool, true, false, true≢false, if◌then◌else◌, List, [], ◌∷◌, ◌++◌, refl, sym, ◌∙◌, ap, Width}
+use Rattle.ds_ports.proofs.Words.{Proc, Nine, Seven, Tick, CardState, DmaState, DividerState, RootState, IrqState, TimerState, GxState, VideoState}
+use Rattle.ds_ports.proofs.Words.{IoState, port_read, port_written, after_write, meaning_of, Register, UnitPart, Released, IrqNine, DmaNine, among}
+use Rattle.ds_ports.proofs.Words.{beyond, changes_some, touches_none, is_part, io_graft, touch_of}
 use Rattle.ds_ipc.specs.Sides.{Side}
-use Rattle.ds_math.specs.Dividers.{DividerState}
-use Rattle.ds_math.specs.Roots.{RootState}
-use Rattle.ds_timers.specs.Irqs.{IrqState}
-use Rattle.ds_timers.specs.Timing.{TimerState}
-use Rattle.gx_fifo.specs.GxStates.{GxState}
-use Rattle.video2d.specs.Videos.{VideoState}
 use Rattle.ds_base.proofs.Choices.{not_false}
 use Rattle.ds_base.proofs.Parted.{Apart, Within, blind_stays, changes_by, fewer, inside, not_there}
 use Rattle.ds_base.specs.Deeds.{Changes, Done, Parted, pick}
-use Rattle.ds_ports.specs.Io.{IoState}
-use Rattle.ds_ports.specs.Ports.{port_read, port_written}
-use Rattle.ds_ports.specs.Registers.{after_write, meaning_of}
-use Rattle.ds_ports.specs.declared.registers.Register.{Register}
 use Rattle.ds_ports.proofs.Covered.{Covers, Of, Passes, ReadTheSame, covers_all, read_leaves, write_leaves}
 use Rattle.ds_ports.proofs.Touched as touched
-use Rattle.ds_ports.specs.Touches.{UnitPart, Display, VideoMemory, BankControls, WramControl, IpcNine, IpcSeven, Pressed, Fill, Card, Division, SquareRoot, Geometry, Released, IrqNine, IrqSeven, TimersNine, TimersSeven, KeycntNine, KeycntSeven, HaltNine, HaltSeven, DmaNine, DmaSeven, among, beyond, changes_some, touches_none, is_part, io_graft, none_of, touch_of}
+use Rattle.ds_ports.specs.Touches.{Display, VideoMemory, BankControls, WramControl, IpcNine, IpcSeven, Pressed, Fill, Card, Division, SquareRoot, Geometry, IrqSeven, TimersNine, TimersSeven, KeycntNine, KeycntSeven, HaltNine, HaltSeven, DmaSeven, none_of}
 use Rattle.ds_ports.proofs.Touched.{read_parts, unchanged, untouched}
 
 -- The units behind the ports have parts; what a register doesn't touch, an access of it passes.

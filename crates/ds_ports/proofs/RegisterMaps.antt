@@ -1,13 +1,10 @@
-use Rattle.std.proofs.Common.{ℕ, zero, suc, ◌≡◌, ◌<◌, ◌≤◌, ◌+◌, ◌-◌, ◌/◌, ◌⊎◌, inl, inr, Bool, true, false, true≢false, ◌==◌, ◌&&◌, ◌||◌, nat_le, nat_lt, if◌then◌else◌, List, [], ◌∷◌, ◌++◌, Option, Some, None, refl, sym, ◌∙◌, subst, arith}
-use Rattle.std.specs.Prelude.{IfSome}
-use Rattle.std.proofs.Math.Nat.{div-lt_iff_lt-mul, mod-lt}
-use Rattle.ds_base.proofs.Choices.{both, le_of, lt_of}
-use Rattle.ds_base.specs.declared.processors.Proc.{Proc}
-use Rattle.ds_ports.specs.declared.registers.Slot.{Slot}
-use Rattle.ds_base.specs.declared.processors.Proc.TheVariants.{Nine, Seven}
-use Rattle.ds_ports.specs.RegisterMap.{PortRow, row_bytes, slot_in, slot_by, slot_of, register_map, IsSlot}
-use Rattle.ds_ports.specs.Registers.{meaning_of}
-use Rattle.ds_ports.specs.Parts.{Part, whole, slot_among, looked_up, high_parts, low_parts, parts_of}
+use Rattle.ds_ports.proofs.Words.{ℕ, zero, suc, ◌≡◌, ◌<◌, ◌≤◌, ◌+◌, ◌-◌, ◌/◌, ◌⊎◌, inl, inr, Bool, true, false, true≢false, ◌==◌, nat_le, nat_lt}
+use Rattle.ds_ports.proofs.Words.{if◌then◌else◌, List, [], ◌∷◌, ◌++◌, Option, Some, None, refl, sym, ◌∙◌, subst, arith, IfSome, div-lt_iff_lt-mul}
+use Rattle.ds_ports.proofs.Words.{mod-lt, both, le_of, Proc, Slot, Nine, Seven, PortRow, row_bytes, slot_in, slot_by, slot_of, register_map, IsSlot}
+use Rattle.ds_ports.proofs.Words.{meaning_of, slot_among}
+use Rattle.std.proofs.Common.{◌&&◌, ◌||◌}
+use Rattle.ds_base.proofs.Choices.{lt_of}
+use Rattle.ds_ports.specs.Parts.{Part, whole, looked_up, parts_of}
 
 -- all rows lie from one offset up to another
 abbrev pub lie : ℕ → ℕ → List PortRow → Bool
@@ -116,12 +113,6 @@ beyond limit (p ∷ parts) others at h l =
     let two = both (nat_le p.limit limit) (ends_by limit parts) h in
     let up = le_of p.limit limit two.0 in
     rw (past_is at p.limit (omega (arith, up, l))) (beyond limit parts others at two.1 l)
-
-pub looked_up_low : (proc : Proc) (at : ℕ) → at < 0x200 → looked_up (parts_of proc) at ≡ looked_up (low_parts proc) at
-looked_up_low proc at l = within 0x200 (low_parts proc) (high_parts proc) at refl l
-
-pub looked_up_high : (proc : Proc) (at : ℕ) → 0x200 ≤ at → looked_up (parts_of proc) at ≡ looked_up (high_parts proc) at
-looked_up_high proc at l = beyond 0x200 (low_parts proc) (high_parts proc) at refl l
 
 -- what holds of each place below one
 abbrev pub each_below : ℕ → (ℕ → Bool) → Bool

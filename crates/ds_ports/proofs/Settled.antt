@@ -1,29 +1,15 @@
-use Rattle.std.proofs.Common.{ℕ, ◌≡◌, ◌<◌, ◌%◌, ◌^◌, ◌==◌, max, Bool, true, false, if◌then◌else◌, bit_and, bit_or, refl, sym, ◌∙◌, ap, subst, arith}
-use Rattle.std.specs.Prelude.{◌&&◌, not, List, [], ◌∷◌}
-use Rattle.std.specs.Int.{bit_at, bit_not, w32}
+use Rattle.ds_ports.proofs.Words.{ℕ, ◌≡◌, ◌<◌, ◌%◌, ◌^◌, ◌==◌, max, Bool, true, false, if◌then◌else◌, bit_and, bit_or, refl, sym, ◌∙◌, ap, subst}
+use Rattle.ds_ports.proofs.Words.{arith, ◌&&◌, not, bit_at, bit_not, w32, bit_at_and, bit_at_or, same_from_bits, both, both_true, equal, is_equal}
+use Rattle.ds_ports.proofs.Words.{Proc, Nine, Seven, Raised, Tick, interrupt_bit, Keys, Word, data_port_at, read_raised, IpcState, ipc_control_raised}
+use Rattle.ds_ports.proofs.Words.{ipc_receive_raised, ipc_send_raised, ipc_sync_raised, events, level, gx_level, moves_dues, if_written}
+use Rattle.ds_ports.proofs.Words.{keycnt_written, keys_hold, kept_keycnt, processor_io_raised, after_write, meaning_of, word_received, word_sent}
+use Rattle.ds_ports.proofs.Words.{IoState, both_raised, is_settled, raised_to, UnitPart, DmaNine, IrqNine, Released, among, changes_some, Register}
+use Rattle.ds_ports.proofs.Words.{Ie, If, Ime, Ipcfifocnt, Ipcfiforecv, Ipcfifosend, Ipcsync, Keycnt, CardData}
+use Rattle.std.specs.Prelude.{List, [], ◌∷◌}
 use Rattle.std.proofs.lemmas.Nat.{and_le_r}
-use Rattle.std.proofs.lemmas.Nat.Bits.{bit_at-pow_other, bit_at_and, bit_at_not, bit_at_or, same_from_bits}
-use Rattle.ds_base.proofs.Choices.{both, both_true, equal, is_equal}
-use Rattle.ds_base.specs.declared.processors.Proc.{Proc}
-use Rattle.ds_base.specs.declared.processors.Proc.TheVariants.{Nine, Seven}
-use Rattle.ds_base.specs.declared.processors.Raised.{Raised}
-use Rattle.ds_base.specs.declared.ticks.Tick.{Tick}
-use Rattle.ds_base.specs.Interrupts.{interrupt_bit}
-use Rattle.ds_base.specs.declared.interrupts.Interrupt.TheVariants.{Keys}
-use Rattle.ds_base.specs.declared.memories.Width.TheVariants.{Word}
-use Rattle.ds_card.specs.CardPorts.{data_port_at}
-use Rattle.ds_card.specs.Cards.{read_raised}
-use Rattle.ds_ipc.specs.Ipcs.{IpcState, ipc_control_raised, ipc_control_written, ipc_receive_raised, ipc_received, ipc_send_raised, ipc_sent, ipc_sync_raised, ipc_sync_written}
-use Rattle.ds_timers.specs.Irqs.{events, level}
-use Rattle.gx_fifo.specs.GxStates.{gx_level}
-use Rattle.ds_ports.specs.Inside.{moves_dues}
-use Rattle.ds_ports.specs.ProcessorIo.{if_written, keycnt_written, keys_hold, kept_keycnt, processor_io_raised}
-use Rattle.ds_ports.specs.Registers.{after_write, meaning_of, word_received, word_sent}
-use Rattle.ds_ports.specs.Io.{IoState, both_raised, is_settled, raised_to}
+use Rattle.std.proofs.lemmas.Nat.Bits.{bit_at-pow_other, bit_at_not}
+use Rattle.ds_ipc.specs.Ipcs.{ipc_control_written, ipc_received, ipc_sent, ipc_sync_written}
 use Rattle.ds_ports.specs.Touches as touches
-use Rattle.ds_ports.specs.Touches.{UnitPart, DmaNine, IrqNine, Released, among, changes_some}
-use Rattle.ds_ports.specs.declared.registers.Register.{Register}
-use Rattle.ds_ports.specs.declared.registers.Register.TheVariants.{Ie, If, Ime, Ipcfifocnt, Ipcfiforecv, Ipcfifosend, Ipcsync, Keycnt, CardData}
 use Rattle.ds_ports.proofs.Passed.{first_false, stays_by_row}
 
 -- What leaves nothing to settle where nothing was: reads, and writes that move no due tick. Events that are raised or acknowledged never touch the level's bit.

@@ -1,31 +1,19 @@
-use Rattle.std.proofs.Common.{ℕ, ◌≡◌, ◌≤◌, ◌+◌, ◌==◌, nat_lt, inl, inr, Bool, true, false, true≢false, if◌then◌else◌, bit_and, bit_or, length, max, Option, Some, None, refl, sym, ◌∙◌, ap, subst, arith}
-use Rattle.std.specs.Prelude.{◌&&◌, ◌||◌, not}
-use Rattle.std.specs.Int.{bit_not, w32}
+use Rattle.ds_ports.proofs.Words.{ℕ, ◌≡◌, ◌≤◌, ◌+◌, ◌==◌, nat_lt, inl, inr, Bool, true, false, true≢false, if◌then◌else◌, bit_and, bit_or, length}
+use Rattle.ds_ports.proofs.Words.{max, Option, Some, None, refl, sym, ◌∙◌, ap, subst, arith, ◌&&◌, ◌||◌, not, bit_not, w32, bit_at_and, bit_at_or}
+use Rattle.ds_ports.proofs.Words.{same_from_bits, both, both_true, equal, is_equal, IsLater, Reschedules, Proc, Nine, Seven, Tick, ready, DmaState}
+use Rattle.ds_ports.proofs.Words.{any_runs, awaits_geometry, channel_at, channel_due, dma_due, due_with, least_running, DmaDue, event_schedules}
+use Rattle.ds_ports.proofs.Words.{dma_triggered_is, event_runs, Timer, Geometry, Dma, IrqState, irq_levelled, level, GeometryCommand}
+use Rattle.ds_ports.proofs.Words.{complete_command, entries_taken, AreWaiting, GxState, done_by, gx_finished, gx_level, is_half_empty, is_stalled}
+use Rattle.ds_ports.proofs.Words.{Banks, held_due, io_due, released_at, IsIo, IsUnchanged, ReschedulesEach, blocks_processor, processor_io_triggered}
+use Rattle.ds_ports.proofs.Words.{IoState, geometry_done, geometry_swapped, geometry_triggered, io_of, is_settled, level_told, release_by}
+use Rattle.ds_ports.proofs.Words.{release_kept, release_of, settled, stall_ends, tick_after, with_halted}
 use Rattle.std.proofs.Math.Nat.{le-max_left}
 use Rattle.std.proofs.lemmas.List.{length-drop}
-use Rattle.std.proofs.lemmas.Nat.Bits.{bit_at_and, bit_at_or, same_from_bits}
-use Rattle.ds_base.proofs.Choices.{both, both_true, equal, is_equal}
-use Rattle.ds_base.specs.Schedules.{IsLater, Reschedules}
-use Rattle.ds_base.specs.declared.processors.Proc.{Proc}
-use Rattle.ds_base.specs.declared.processors.Proc.TheVariants.{Nine, Seven}
-use Rattle.ds_base.specs.declared.ticks.Tick.{Tick}
-use Rattle.ds_dma.specs.Channels.{ready}
-use Rattle.ds_dma.specs.States.{DmaState, any_runs, awaits_geometry, channel_at, channel_due, dma_due, due_with, least_running}
 use Rattle.ds_dma.specs.declared.controls.Cause.TheVariants as causes
-use Rattle.ds_dma.specs.declared.dma.DmaDue.{DmaDue}
-use Rattle.ds_dma.proofs.Turns.{event_schedules}
-use Rattle.ds_dma.proofs.Wholes.{awaits_no_more, awaits_none, dma_triggered_is, event_runs}
-use Rattle.ds_runs.specs.declared.actors.Actor.TheVariants.{Timer, Geometry, Dma}
-use Rattle.ds_timers.specs.Irqs.{IrqState, irq_levelled, level}
-use Rattle.gx_matrix.specs.declared.commands.GeometryCommand.{GeometryCommand}
-use Rattle.gx_fifo.specs.Entries.{complete_command, entries_taken}
-use Rattle.gx_fifo.specs.GxStates.{AddsOneVertex, AreWaiting, GxState, done_by, gx_finished, gx_level, gx_swapped, is_half_empty, is_stalled}
+use Rattle.ds_dma.proofs.Wholes.{awaits_no_more, awaits_none}
+use Rattle.gx_fifo.specs.GxStates.{AddsOneVertex, gx_swapped}
 use Rattle.gx_fifo.proofs.Laws.{finished_later, finished_run, finished_waiting, swapped_schedules, swapped_waiting}
-use Rattle.vram_banks.specs.Cells.{Banks}
-use Rattle.ds_ports.specs.Dues.{held_due, io_due, released_at}
-use Rattle.ds_ports.specs.Happenings.{IsIo, IsUnchanged, ReschedulesEach}
-use Rattle.ds_ports.specs.ProcessorIo.{blocks_processor, processor_io_triggered}
-use Rattle.ds_ports.specs.Io.{IoState, geometry_done, geometry_swapped, geometry_triggered, channel_comes_before, io_of, is_held, is_settled, level_told, release_by, release_kept, release_of, settled, stall_ends, tick_after, with_halted}
+use Rattle.ds_ports.specs.Io.{channel_comes_before, is_held}
 use Rattle.ds_ports.proofs.Later.{ProcessorIoReschedules, processor_io_each, unchanged_same}
 use Rattle.ds_ports.proofs.HeldDues.{none_kept}
 use Rattle.ds_ports.proofs.Events.{Happens, happens_by, happens_on, own_is, unchanged_happens}

@@ -1,10 +1,8 @@
-use Rattle.std.proofs.Common.{ℕ, ◌≡◌, List, Option, Some, None, Ok, Err, refl, sym, ◌∙◌, ap, arith}
-use Rattle.ds_base.specs.declared.left_out.Stop.{Stop}
-use Rattle.ds_base.specs.declared.ticks.Tick.{Tick}
-use Rattle.video2d.specs.Scans.{scan_due_tick}
-use Rattle.video2d.specs.Videos.{VideoState, answer_unless, unless_stop, video_after_event, video_answer, video_happened, video_shown, video_stop}
-use Rattle.video2d.specs.declared.videos.Shown.{Shown}
-use Rattle.ds_ports.specs.Io.{IoState, both_raised, channels_shown, shown_to_others, video_done}
+use Rattle.ds_ports.proofs.Words.{ℕ, ◌≡◌, List, Option, Some, None, refl, sym, ◌∙◌, ap, arith, Stop, Tick, scan_due_tick, VideoState, unless_stop}
+use Rattle.ds_ports.proofs.Words.{video_after_event, video_happened, video_shown, video_stop, Shown, IoState, both_raised, channels_shown}
+use Rattle.ds_ports.proofs.Words.{shown_to_others, video_done}
+use Rattle.std.proofs.Common.{Ok, Err}
+use Rattle.video2d.specs.Videos.{answer_unless, video_answer}
 
 -- What the display's event leaves, by what it answers.
 

@@ -1,23 +1,14 @@
-use Rattle.std.specs.Prelude.{◌&&◌, ◌||◌, not}
-use Rattle.std.proofs.Common.{ℕ, ◌≡◌, ◌==◌, Bool, true, false, true≢false, if◌then◌else◌, List, Option, None, Some, is_some, refl, sym, ◌∙◌, ap}
-use Rattle.ds_base.proofs.Choices.{and_false, both, equal, not_true}
-use Rattle.ds_base.specs.declared.processors.Proc.{Proc}
-use Rattle.ds_base.specs.declared.processors.Proc.TheVariants.{Nine, Seven}
-use Rattle.ds_base.specs.declared.ticks.Tick.{Tick}
-use Rattle.ds_dma.specs.Channels.{ChannelState, is_running, is_triggered}
-use Rattle.ds_dma.specs.Controls.{is_enabled, waits_for}
+use Rattle.ds_ports.proofs.Words.{◌&&◌, ◌||◌, not, ℕ, ◌≡◌, ◌==◌, Bool, true, false, true≢false, if◌then◌else◌, List, Option, None, Some, is_some}
+use Rattle.ds_ports.proofs.Words.{refl, sym, ◌∙◌, ap, both, equal, Proc, Nine, Seven, Tick, ChannelState, is_triggered, is_enabled, waits_for}
+use Rattle.ds_ports.proofs.Words.{DmaState, awaits_geometry, channel_at, dma_due, Geometry, irq_levelled, GxState, gx_finished, gx_level, gx_written}
+use Rattle.ds_ports.proofs.Words.{is_half_empty, is_stalled, acting_io_due, first_acting_io_due, is_armed, is_silent, first_with, IoState}
+use Rattle.ds_ports.proofs.Words.{geometry_done, io_event, is_settled, release_by, with_gx, after_write, Register, GxWord, GxCommand}
+use Rattle.ds_base.proofs.Choices.{and_false, not_true}
+use Rattle.ds_dma.specs.Channels.{is_running}
 use Rattle.ds_dma.specs.declared.controls.Cause.TheVariants as causes
-use Rattle.ds_dma.specs.States.{DmaState, awaits_geometry, channel_at, dma_due}
 use Rattle.ds_runs.specs.declared.actors.Actor as actor
-use Rattle.ds_runs.specs.declared.actors.Actor.TheVariants.{Geometry}
-use Rattle.ds_timers.specs.Irqs.{irq_levelled}
-use Rattle.gx_fifo.specs.GxStates.{GxState, gx_finished, gx_level, gx_written, is_half_empty, is_stalled}
-use Rattle.ds_ports.specs.Acting.{acting_io_due, any_armed, first_acting_io_due, is_armed, is_silent}
-use Rattle.ds_ports.specs.Inside.{first_with, is_of_geometry}
-use Rattle.ds_ports.specs.Io.{IoState, geometry_done, io_event, is_settled, release_by, with_gx}
-use Rattle.ds_ports.specs.Registers.{after_write}
-use Rattle.ds_ports.specs.declared.registers.Register.{Register}
-use Rattle.ds_ports.specs.declared.registers.Register.TheVariants.{GxWord, GxCommand}
+use Rattle.ds_ports.specs.Acting.{any_armed}
+use Rattle.ds_ports.specs.Inside.{is_of_geometry}
 
 -- Where nobody hears of what geometry does, before and after, its event and the words that it is given change neither which actor acts first nor
 -- whether something is left to settle.

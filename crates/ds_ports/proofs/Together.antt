@@ -1,13 +1,10 @@
-use Rattle.std.proofs.Common.{ℕ, ◌≡◌, ◌<◌, ◌≤◌, ◌+◌, ◌-◌, ◌*◌, ◌/◌, ◌%◌, ◌==◌, ◌||◌, inl, inr, Bool, true, false, ◌&&◌, if◌then◌else◌, nat_le, nat_lt, List, [], ◌∷◌, Option, Some, None, refl, sym, ◌∙◌, ap, subst, arith}
-use Rattle.std.specs.Prelude.{IfSome}
-use Rattle.std.proofs.Math.Nat.{add-mul-mod_self_right, div-lt_iff_lt-mul, mod-lt, mul-le-mul_right}
+use Rattle.ds_ports.proofs.Words.{ℕ, ◌≡◌, ◌<◌, ◌≤◌, ◌+◌, ◌-◌, ◌*◌, ◌/◌, ◌%◌, ◌==◌, inl, inr, Bool, true, false, if◌then◌else◌, nat_le, nat_lt, List}
+use Rattle.ds_ports.proofs.Words.{[], ◌∷◌, Option, Some, None, refl, sym, ◌∙◌, ap, subst, arith, IfSome, div-lt_iff_lt-mul, mod-lt, none-some}
+use Rattle.ds_ports.proofs.Words.{same_Some, Proc, Nine, Seven, IsWidth, PortRow, StandsWhole, register_map, row_bytes, slot_by, slot_in, slot_of}
+use Rattle.ds_ports.proofs.Words.{Slot, both, le_of}
+use Rattle.std.proofs.Common.{◌||◌, ◌&&◌}
+use Rattle.std.proofs.Math.Nat.{add-mul-mod_self_right, mul-le-mul_right}
 use Rattle.std.proofs.lemmas.Nat.{div-add-mod', div-mul-add, mod-mul-add}
-use Rattle.std.proofs.lemmas.Option.{none-some, same_Some}
-use Rattle.ds_base.specs.declared.processors.Proc.{Proc}
-use Rattle.ds_base.specs.declared.processors.Proc.TheVariants.{Nine, Seven}
-use Rattle.ds_ports.specs.RegisterMap.{IsWidth, PortRow, StandsWhole, register_map, row_bytes, slot_by, slot_in, slot_of}
-use Rattle.ds_ports.specs.declared.registers.Slot.{Slot}
-use Rattle.ds_base.proofs.Choices.{both, le_of}
 use Rattle.ds_ports.proofs.Spans.{lies, none_before, rise}
 
 -- A register stands whole at a multiple of its width.

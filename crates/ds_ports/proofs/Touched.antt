@@ -1,16 +1,7 @@
-use Rattle.std.proofs.Common.{ℕ, ◌≡◌, ◌==◌, ◌%◌, ◌^◌, Bool, true, false, if◌then◌else◌, List, ◌∷◌, ◌++◌, refl}
-use Rattle.ds_base.specs.Bits.{bits}
-use Rattle.ds_base.specs.Interrupts.{interrupt_bit}
-use Rattle.ds_base.specs.declared.interrupts.Interrupt.TheVariants.{Keys}
-use Rattle.ds_base.specs.declared.processors.Proc.{Proc}
-use Rattle.ds_base.specs.declared.processors.Proc.TheVariants.{Nine, Seven}
-use Rattle.ds_base.specs.declared.ticks.Tick.{Tick}
-use Rattle.ds_ports.specs.Io.{IoState, io_of, with_io_of}
-use Rattle.ds_ports.specs.ProcessorIo.{ProcessorIoState, kept_keycnt, keys_hold, processor_io_raised}
-use Rattle.ds_ports.specs.Registers.{after_write, meaning_of}
-use Rattle.ds_ports.specs.Touches.{UnitPart, Card, beyond, both_sides, io_graft, touch_of}
-use Rattle.ds_ports.specs.declared.registers.Register.{Register}
-use Rattle.ds_ports.specs.declared.registers.Register.TheVariants.{Haltcnt, Ie, Keycnt}
+use Rattle.ds_ports.proofs.Words.{ℕ, ◌≡◌, ◌==◌, ◌%◌, ◌^◌, Bool, true, false, if◌then◌else◌, List, ◌∷◌, ◌++◌, refl, bits, interrupt_bit, Keys, Proc}
+use Rattle.ds_ports.proofs.Words.{Nine, Seven, Tick, IoState, io_of, with_io_of, ProcessorIoState, kept_keycnt, keys_hold, processor_io_raised}
+use Rattle.ds_ports.proofs.Words.{after_write, meaning_of, UnitPart, beyond, io_graft, touch_of, Register, Haltcnt, Ie, Keycnt}
+use Rattle.ds_ports.specs.Touches.{Card, both_sides}
 
 -- Each row of the table of what registers touch is true: by computing, but for two that choose all that a processor has of its own.
 

@@ -1,19 +1,7 @@
-use Rattle.std.proofs.Common.{ℕ, ◌≡◌, ◌<◌, ◌≤◌, ◌+◌, ◌^◌, nat_le, Bool, true, false, Option, Some, None, refl, ap, subst, arith}
-use Rattle.ds_base.specs.Numbers.{width_bytes}
-use Rattle.ds_base.specs.declared.memories.Width.{Width}
-use Rattle.ds_base.specs.declared.memories.Width.TheVariants.{Byte, Half, Word}
-use Rattle.ds_base.specs.declared.processors.Proc.{Proc}
-use Rattle.ds_base.specs.declared.ticks.Tick.{Tick}
-use Rattle.gx_fifo.specs.GxPorts.{gx_port}
-use Rattle.gx_fifo.specs.GxStates.{GxState, IsGx, gx_kept, kept_port}
-use Rattle.gx_fifo.specs.declared.ports.GxPort.{GxPort}
-use Rattle.gx_fifo.specs.declared.ports.GxPort.TheVariants.{Display, Status}
-use Rattle.ds_ports.specs.Ports.{is_narrow, port_read, port_refusal, port_value, port_written, slot_refusal, slot_value, slot_written, unless_stopped, whole_if, whole_in, with_bytes_from}
-use Rattle.ds_ports.specs.RegisterMap.{slot_of}
-use Rattle.ds_ports.specs.Registers.{after_write, meaning_of}
-use Rattle.ds_ports.specs.Io.{IoState}
-use Rattle.ds_ports.specs.declared.registers.Register.TheVariants.{GxCommand}
-use Rattle.ds_ports.specs.declared.registers.Slot.{Slot}
+use Rattle.ds_ports.proofs.Words.{ℕ, ◌≡◌, ◌<◌, ◌≤◌, ◌+◌, ◌^◌, nat_le, Bool, true, false, Option, Some, None, refl, ap, subst, arith, width_bytes}
+use Rattle.ds_ports.proofs.Words.{Width, Byte, Half, Word, Proc, Tick, gx_port, GxState, IsGx, gx_kept, kept_port, GxPort, Display, Status, is_narrow}
+use Rattle.ds_ports.proofs.Words.{port_read, port_refusal, port_value, port_written, slot_refusal, slot_value, slot_written, unless_stopped, whole_if}
+use Rattle.ds_ports.proofs.Words.{whole_in, with_bytes_from, slot_of, after_write, meaning_of, IoState, GxCommand, Slot}
 
 -- An access that lies in one register, whatever its width.
 

@@ -1,35 +1,21 @@
-use Rattle.std.proofs.Common.{ℕ, ◌≡◌, ◌<◌, ◌≤◌, ◌+◌, Bool, false, if◌then◌else◌, List, drop, Option, Some, None, refl, sym, ◌∙◌, ap, subst, arith}
-use Rattle.std.specs.Prelude.{IsSome}
-use Rattle.ds_base.proofs.Choices.{either}
-use Rattle.ds_base.specs.declared.left_out.Stop.{Stop}
-use Rattle.ds_base.specs.declared.processors.Proc.{Proc}
-use Rattle.ds_base.specs.declared.processors.Proc.TheVariants.{Nine, Seven}
-use Rattle.ds_base.specs.declared.ticks.Tick.{Tick}
-use Rattle.ds_card.specs.Cards.{CardState, card_after_event, card_due, card_starter, event_raised, event_readies}
-use Rattle.ds_card.proofs.Schedules.{event_ends}
-use Rattle.ds_dma.specs.States.{DmaState, dma_due, most_waits}
-use Rattle.ds_dma.specs.declared.controls.Cause.{Cause}
-use Rattle.ds_dma.specs.declared.controls.Cause.TheVariants.{VBlank, HBlank}
+use Rattle.ds_ports.proofs.Words.{ℕ, ◌≡◌, ◌<◌, ◌≤◌, ◌+◌, Bool, false, if◌then◌else◌, List, Option, Some, None, refl, sym, ◌∙◌, ap, subst, arith}
+use Rattle.ds_ports.proofs.Words.{IsSome, either, Stop, Proc, Nine, Seven, Tick, CardState, card_after_event, card_due, card_starter, event_readies}
+use Rattle.ds_ports.proofs.Words.{event_ends, DmaState, dma_due, most_waits, Cause, VBlank, HBlank, KeyScript, Video, Timer, Divider, SquareRoot}
+use Rattle.ds_ports.proofs.Words.{Geometry, Card, Dma, Processor, irq_levelled, overflow_of, timer_at, timer_due, GeometryState, no_swap}
+use Rattle.ds_ports.proofs.Words.{GeometryCommand, complete_command, entries_taken, GxState, done_by, gx_level, is_half_empty, stays_video, IsVideo}
+use Rattle.ds_ports.proofs.Words.{ScanState, scan_after, scan_before, scan_due, scan_due_tick, video_happened, video_shown, video_stop, unless_stop}
+use Rattle.ds_ports.proofs.Words.{Shown, io_due, IoState, both_raised, card_done, card_done_at, channel_moved, channels_shown, channels_triggered}
+use Rattle.ds_ports.proofs.Words.{division_done, geometry_done, geometry_swapped, geometry_triggered, io_event, io_of, keys_pressed, level_told}
+use Rattle.ds_ports.proofs.Words.{raised_to, release_kept, release_of, root_done, settled, shown_to_others, stall_ends, starter_told, tick_after}
+use Rattle.ds_ports.proofs.Words.{timer_overflows, told_of_card, video_done, with_halted, with_io_of, keys_told, processor_io_raised}
+use Rattle.ds_ports.proofs.Words.{processor_io_triggered, IsBy, IsSoonBy, OwnIsWithinTick, IsProcessorIo}
+use Rattle.std.proofs.Common.{drop}
+use Rattle.ds_card.specs.Cards.{event_raised}
 use Rattle.ds_dma.specs.declared.controls.Cause.TheVariants as causes
 use Rattle.ds_runs.specs.declared.actors.Actor as actor
-use Rattle.ds_runs.specs.declared.actors.Actor.TheVariants.{KeyScript, Video, Timer, Divider, SquareRoot, Geometry, Card, Dma, Processor}
-use Rattle.ds_timers.specs.Irqs.{irq_levelled}
-use Rattle.ds_timers.specs.Timing.{overflow_of, timer_at, timer_due}
-use Rattle.gx_geometry.specs.States.{GeometryState, geometry_after, no_swap, swapped}
-use Rattle.gx_matrix.specs.declared.commands.GeometryCommand.{GeometryCommand}
-use Rattle.gx_fifo.specs.Entries.{asks_for_swap, complete_command, entries_taken, words_taken}
-use Rattle.gx_fifo.specs.GxStates.{GxState, done_by, gx_level, is_half_empty}
+use Rattle.gx_geometry.specs.States.{geometry_after, swapped}
+use Rattle.gx_fifo.specs.Entries.{asks_for_swap, words_taken}
 use Rattle.video2d.proofs.SavedScans.{scans_follow}
-use Rattle.video2d.proofs.VideoLaws.{stays_video}
-use Rattle.video2d.specs.Invariants.{IsVideo}
-use Rattle.video2d.specs.Scans.{ScanState, scan_after, scan_before, scan_due, scan_due_tick}
-use Rattle.video2d.specs.Videos.{video_happened, video_shown, video_stop, unless_stop}
-use Rattle.video2d.specs.declared.videos.Shown.{Shown}
-use Rattle.ds_ports.specs.Dues.{io_due}
-use Rattle.ds_ports.specs.Io.{IoState, both_raised, card_done, card_done_at, channel_moved, channels_shown, channels_triggered, division_done, geometry_done, geometry_swapped, geometry_triggered, io_event, io_of, keys_pressed, level_told, raised_to, release_kept, release_of, root_done, settled, shown_to_others, stall_ends, starter_told, tick_after, timer_overflows, told_of_card, video_done, with_halted, with_io_of}
-use Rattle.ds_ports.specs.ProcessorIo.{keys_told, processor_io_raised, processor_io_triggered}
-use Rattle.ds_ports.specs.Within.{IsBy, IsSoonBy, OwnIsWithinTick}
-use Rattle.ds_ports.specs.Happenings.{IsProcessorIo}
 use Rattle.ds_ports.proofs.Events.{HasEvent, happened_scan}
 use Rattle.ds_ports.proofs.WithinOwn.{OwnStays, alike, overflow_own, raised_own, told_own, triggered_own, unit_own}
 use Rattle.ds_ports.proofs.WithinPorts.{Stays, begun_soon, beside, beside_all, other_video, own_stays, raised_both, with_own}

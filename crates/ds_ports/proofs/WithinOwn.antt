@@ -1,30 +1,25 @@
-use Rattle.std.proofs.Common.{ℕ, zero, suc, ◌≡◌, ◌<◌, ◌≤◌, ◌^◌, inl, inr, Bool, true, false, if◌then◌else◌, List, slice_set, bit_and, bit_or, Option, Some, None, refl, sym, ◌∙◌, ap, subst, arith, get_or-set_other}
-use Rattle.std.specs.Prelude.{◌&&◌, ◌==◌, not, IsSome}
-use Rattle.std.specs.Int.{bit_at, bit_not, w32}
-use Rattle.std.proofs.lemmas.Nat.Bits.{bit_at_and, bit_at_or, same_from_bits}
-use Rattle.ds_base.proofs.Choices.{either, either_by, equal, same_or_not}
-use Rattle.ds_base.specs.Interrupts.{interrupt_bit}
-use Rattle.ds_base.specs.declared.interrupts.Interrupt.TheVariants.{Keys}
-use Rattle.ds_base.specs.declared.left_out.Stop.{Stop}
-use Rattle.ds_base.specs.declared.processors.Proc.{Proc}
-use Rattle.ds_base.specs.declared.ticks.Tick.{Tick}
-use Rattle.ds_dma.specs.Channels.{ChannelState, after_unit, channel_refusal, channel_set, is_last_of_burst, is_last_unit, is_triggered, triggered}
-use Rattle.ds_dma.specs.Controls.{is_armed_again, is_enabled, kept_channel_control, starts_immediately}
-use Rattle.ds_dma.specs.States.{DmaState, IsDma, channel_at, channel_written, dma_due, dma_finished, dma_triggered, due_channel, least_running, most_waits, unless}
-use Rattle.ds_dma.specs.declared.controls.Cause.{Cause}
-use Rattle.ds_dma.specs.declared.controls.DmaPort.{DmaPort}
-use Rattle.ds_dma.specs.declared.controls.DmaPort.TheVariants.{Source, Target, Control}
+use Rattle.ds_ports.proofs.Words.{ℕ, zero, suc, ◌≡◌, ◌<◌, ◌≤◌, ◌^◌, inl, inr, Bool, true, false, if◌then◌else◌, List, slice_set, bit_and, bit_or}
+use Rattle.ds_ports.proofs.Words.{Option, Some, None, refl, sym, ◌∙◌, ap, subst, arith, ◌&&◌, not, IsSome, bit_at, bit_not, w32, bit_at_and}
+use Rattle.ds_ports.proofs.Words.{bit_at_or, same_from_bits, either, equal, interrupt_bit, Keys, Stop, Proc, Tick, ChannelState, after_unit}
+use Rattle.ds_ports.proofs.Words.{is_last_of_burst, is_last_unit, is_triggered, triggered, is_armed_again, is_enabled, DmaState, IsDma, channel_at}
+use Rattle.ds_ports.proofs.Words.{dma_due, dma_finished, dma_triggered, due_channel, least_running, most_waits, Cause, DmaPort, Source, Target}
+use Rattle.ds_ports.proofs.Words.{Control, channel_written_is, dma_finished_is, dma_triggered_is, events, level, TimerState, AreTimers, control_set}
+use Rattle.ds_ports.proofs.Words.{kept_control, overflow_of, reload_set, timer_at, timer_due, control_set_is, reload_set_is, overflow_keeps}
+use Rattle.ds_ports.proofs.Words.{IsProcessorIo, ProcessorIoState, processor_io_moved, processor_io_raised, processor_io_triggered, dma_written}
+use Rattle.ds_ports.proofs.Words.{if_written, kept_keycnt, keys_hold, keys_told, IsBy, OwnIsWithinTick}
+use Rattle.std.proofs.Common.{get_or-set_other}
+use Rattle.std.specs.Prelude.{◌==◌}
+use Rattle.ds_base.proofs.Choices.{either_by, same_or_not}
+use Rattle.ds_dma.specs.Channels.{channel_refusal, channel_set}
+use Rattle.ds_dma.specs.Controls.{kept_channel_control, starts_immediately}
+use Rattle.ds_dma.specs.States.{channel_written, unless}
 use Rattle.ds_dma.proofs.Fours.{at_mapped, set_holds}
 use Rattle.ds_dma.proofs.Turns.{least_below}
-use Rattle.ds_dma.proofs.Wholes.{channel_written_is, dma_finished_is, dma_triggered_is}
-use Rattle.ds_timers.specs.Irqs.{events, interrupts_of, level}
-use Rattle.ds_timers.specs.Timing.{TimerState, AreTimers, after_overflow, carries, control_set, controlled, is_start, kept_control, overflow_of, overflows, pace, reload_set, runs_free, timer_at, timer_due}
-use Rattle.ds_timers.proofs.Changed.{control_set_is, reload_set_is}
+use Rattle.ds_timers.specs.Irqs.{interrupts_of}
+use Rattle.ds_timers.specs.Timing.{after_overflow, carries, controlled, is_start, overflows, pace, runs_free}
 use Rattle.ds_timers.proofs.Four.{set_same}
-use Rattle.ds_timers.proofs.Overflowed.{overflow_keeps}
-use Rattle.ds_ports.specs.Happenings.{IsProcessorIo}
-use Rattle.ds_ports.specs.ProcessorIo.{ProcessorIoState, processor_io_moved, processor_io_raised, processor_io_triggered, dma_written, ie_written, if_written, kept_keycnt, keys_hold, keys_told}
-use Rattle.ds_ports.specs.Within.{ChannelsAreBy, IsBy, OwnIsWithinTick}
+use Rattle.ds_ports.specs.ProcessorIo.{ie_written}
+use Rattle.ds_ports.specs.WithinLaws.{ChannelsAreBy}
 
 -- What happens below a tick keeps what a processor has of its own within it.
 

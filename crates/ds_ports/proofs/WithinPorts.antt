@@ -1,44 +1,23 @@
-use Rattle.std.proofs.Common.{ℕ, ◌≡◌, ◌<◌, ◌≤◌, ◌+◌, ◌%◌, ◌^◌, Bool, true, false, List, Option, Some, None, option_map, refl, sym, ◌∙◌, ap, subst, arith}
+use Rattle.ds_ports.proofs.Words.{ℕ, ◌≡◌, ◌<◌, ◌≤◌, ◌+◌, ◌%◌, ◌^◌, Bool, true, false, List, Option, Some, None, refl, sym, ◌∙◌, ap, subst, arith}
+use Rattle.ds_ports.proofs.Words.{either, bits, Width, Half, Word, Proc, Nine, Seven, Raised, Tick, data_port_at, CardState, card_after_read}
+use Rattle.ds_ports.proofs.Words.{card_due, card_written, read_raised, Source, Target, Control, IpcState, division_ticks, Swapped, no_swap}
+use Rattle.ds_ports.proofs.Words.{command_of, command_row, GeometryCommand, GxEntry, GxPort, Display, Fifo, Direct, Status, Lengths, Position, Vector}
+use Rattle.ds_ports.proofs.Words.{Clip, VectorMatrix, Unlisted, complete_command, gx_port, GxState, write_port, entry_added, IsVideo, scan_before}
+use Rattle.ds_ports.proofs.Words.{VideoState, video_written, stays_video, IsProcessorIo, IoState, both_raised, io_of, raised_to, with_io_of}
+use Rattle.ds_ports.proofs.Words.{port_read, port_written, ProcessorIoState, haltcnt_written, kept_keycnt, processor_io_raised, IsSlot, after_write}
+use Rattle.ds_ports.proofs.Words.{card_set, card_word_taken, gx_set, meaning_of, IsSoonBy, OwnIsWithinTick, Register, DisplayHalf, DisplayWord}
+use Rattle.ds_ports.proofs.Words.{Dmasad, Dmadad, Dmacnt, TmcntL, TmcntH, Keycnt, Ipcsync, Ipcfifocnt, Ipcfifosend, Ipcfiforecv, Ime, Ie, If, Divcnt}
+use Rattle.ds_ports.proofs.Words.{DivNumer, DivDenom, Sqrtcnt, SqrtParam, GxWord, GxCommand, Auxspicnt, CardWord, CardData, Haltcnt}
+use Rattle.std.proofs.Common.{option_map}
 use Rattle.std.specs.Prelude.{◌==◌}
-use Rattle.ds_base.proofs.Choices.{either}
-use Rattle.ds_base.specs.Bits.{bits}
-use Rattle.ds_base.specs.declared.memories.Width.{Width}
-use Rattle.ds_base.specs.declared.memories.Width.TheVariants.{Half, Word}
-use Rattle.ds_base.specs.declared.processors.Proc.{Proc}
-use Rattle.ds_base.specs.declared.processors.Proc.TheVariants.{Nine, Seven}
-use Rattle.ds_base.specs.declared.processors.Raised.{Raised}
-use Rattle.ds_base.specs.declared.ticks.Tick.{Tick}
-use Rattle.ds_card.specs.CardPorts.{data_port_at}
-use Rattle.ds_card.specs.Cards.{CardState, card_after_read, card_due, card_written, next_due, next_word_after, read_raised}
+use Rattle.ds_card.specs.Cards.{next_due, next_word_after}
 use Rattle.ds_card.specs.declared.cards.Transfer.{Transfer}
 use Rattle.ds_card.proofs.Schedules.{read_makes, write_makes}
-use Rattle.ds_dma.specs.declared.controls.DmaPort.TheVariants.{Source, Target, Control}
-use Rattle.ds_ipc.specs.Ipcs.{IpcState}
-use Rattle.ds_math.specs.Dividers.{division_ticks}
-use Rattle.gx_geometry.specs.States.{Swapped, no_swap}
-use Rattle.gx_matrix.specs.CommandTable.{command_of, command_row}
-use Rattle.gx_matrix.specs.declared.commands.GeometryCommand.{GeometryCommand}
 use Rattle.gx_matrix.specs.declared.commands.GeometryCommand.TheVariants.{MtxMode}
-use Rattle.gx_fifo.specs.declared.entries.GxEntry.{GxEntry}
-use Rattle.gx_fifo.specs.declared.ports.GxPort.{GxPort}
-use Rattle.gx_fifo.specs.declared.ports.GxPort.TheVariants.{Display, Fifo, Direct, Status, Lengths, Position, Vector, Clip, VectorMatrix, Unlisted}
-use Rattle.gx_fifo.specs.Entries.{begun, complete_command, done_after}
-use Rattle.gx_fifo.specs.GxPorts.{gx_port}
-use Rattle.gx_fifo.specs.GxStates.{GxState, due_after, write_port}
-use Rattle.gx_fifo.specs.PackedWords.{entry_added, word_taken}
-use Rattle.video2d.specs.Invariants.{IsVideo}
-use Rattle.video2d.specs.Scans.{scan_before}
-use Rattle.video2d.specs.Videos.{VideoState, video_written}
-use Rattle.video2d.proofs.VideoLaws.{stays_video}
-use Rattle.ds_ports.specs.Happenings.{IsProcessorIo}
-use Rattle.ds_ports.specs.Io.{IoState, both_raised, io_of, raised_to, with_io_of}
-use Rattle.ds_ports.specs.Ports.{port_read, port_written}
-use Rattle.ds_ports.specs.ProcessorIo.{ProcessorIoState, haltcnt_written, kept_keycnt, processor_io_raised}
-use Rattle.ds_ports.specs.RegisterMap.{IsSlot}
-use Rattle.ds_ports.specs.Registers.{after_write, card_set, card_word_taken, gx_set, meaning_of}
-use Rattle.ds_ports.specs.Within.{AreWithinTick, IsSoonBy, OwnIsWithinTick}
-use Rattle.ds_ports.specs.declared.registers.Register.{Register}
-use Rattle.ds_ports.specs.declared.registers.Register.TheVariants.{DisplayHalf, DisplayWord, Dmasad, Dmadad, Dmacnt, TmcntL, TmcntH, Keycnt, Ipcsync, Ipcfifocnt, Ipcfifosend, Ipcfiforecv, Ime, Ie, If, Divcnt, DivNumer, DivDenom, Sqrtcnt, SqrtParam, GxWord, GxCommand, Auxspicnt, CardWord, CardData, Haltcnt}
+use Rattle.gx_fifo.specs.Entries.{begun, done_after}
+use Rattle.gx_fifo.specs.GxStates.{due_after}
+use Rattle.gx_fifo.specs.PackedWords.{word_taken}
+use Rattle.ds_ports.specs.WithinLaws.{AreWithinTick}
 use Rattle.ds_ports.proofs.Covered.{are_all, read_leaves, write_leaves}
 use Rattle.ds_ports.proofs.DisplayPorts.{written_scan}
 use Rattle.ds_ports.proofs.GxPorts.{written_last}

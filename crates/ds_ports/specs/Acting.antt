@@ -7,7 +7,7 @@ use Rattle.ds_dma.specs.States.{DmaState, channel_at}
 use Rattle.ds_dma.specs.declared.controls.Cause.TheVariants as causes
 use Rattle.ds_runs.specs.declared.actors.Actor as actor
 use Rattle.ds_runs.specs.declared.actors.Actor.TheVariants.{Geometry}
-use Rattle.ds_runs.specs.Order.{first_from}
+use Rattle.ds_runs.specs.OrderLaws.{first_from}
 use Rattle.ds_ports.specs.Dues.{dues_with, io_due}
 use Rattle.ds_ports.specs.Io.{IoState}
 use Rattle.gx_fifo.specs.GxStates.{is_stalled}

@@ -7,7 +7,7 @@ use Rattle.ds_card.specs.Cards.{card_due}
 use Rattle.ds_dma.specs.States.{channel_due}
 use Rattle.ds_runs.specs.declared.actors.Actor as actor
 use Rattle.ds_runs.specs.declared.actors.Actor.TheVariants.{KeyScript, Video, Timer, Divider, SquareRoot, Geometry, Card, Dma, Processor}
-use Rattle.ds_runs.specs.Order.{first_from}
+use Rattle.ds_runs.specs.OrderLaws.{first_from}
 use Rattle.ds_timers.specs.Timing.{timer_at, timer_due}
 use Rattle.ds_ports.specs.Io.{IoState, io_of}
 use Rattle.gx_fifo.specs.GxStates.{is_stalled}
@@ -37,9 +37,8 @@ due_in_io u Divider = u.divider.due
 due_in_io u SquareRoot = u.root.due
 due_in_io u Geometry = u.gx.due
 due_in_io u (Dma proc channel) = dma_due_in u proc channel
-due_in_io u KeyScript = None
 due_in_io u Card = card_due u.card
-due_in_io u (Processor proc) = None
+due_in_io u a = None
 
 abbrev pub io_due : actor.Actor → IoState → Option Tick
 io_due a u = due_in_io u a

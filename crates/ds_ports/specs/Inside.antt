@@ -4,7 +4,7 @@ use Rattle.ds_base.specs.declared.processors.Proc.TheVariants.{Nine}
 use Rattle.ds_base.specs.declared.ticks.Due.{Due}
 use Rattle.ds_base.specs.declared.ticks.Tick.{Tick}
 use Rattle.ds_dma.specs.declared.controls.DmaPort.TheVariants.{Source, Target, Control}
-use Rattle.ds_runs.specs.Order.{first_from}
+use Rattle.ds_runs.specs.OrderLaws.{first_from}
 use Rattle.ds_ports.specs.Dues.{dues_with}
 use Rattle.ds_ports.specs.Io.{IoState}
 use Rattle.ds_ports.specs.ProcessorIo.{ProcessorIoState, control_written, dma_written, haltcnt_written, ie_written, if_written, ime_written, keycnt_written, reload_written}

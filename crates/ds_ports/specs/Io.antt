@@ -234,10 +234,7 @@ io_event file Divider u = division_done u
 io_event file SquareRoot u = root_done u
 io_event file Geometry u = geometry_done u
 io_event file Card u = card_done file u
-io_event file KeyScript u = u
-io_event file Video u = u
-io_event file (Dma proc channel) u = u
-io_event file (Processor proc) u = u
+io_event file a u = u
 
 -- the DMA channel of a processor that is due moves its first unit, but for the access itself
 abbrev pub channel_moved : Proc → Tick → ℕ → IoState → IoState

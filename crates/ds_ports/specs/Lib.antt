@@ -9,5 +9,5 @@ pub mod RegisterMap
 pub mod Registers
 pub mod Touches
 pub mod Io
-pub mod Happenings
-pub mod Within
+pub mod HappeningLaws
+pub mod WithinLaws

@@ -6,7 +6,7 @@ ghost use Rattle.ds_ipc.specs.Ipcs.{ipc_received_word};
 ghost use Rattle.ds_dma.specs.States.{dma_due, most_waits};
 ghost use Rattle.ds_runs.specs.Actors.{IsNumbered};
 ghost use Rattle.ds_runs.specs.declared.actors.Actor.TheVariants as actors;
-ghost use Rattle.ds_runs.specs.Order.{first_from};
+ghost use Rattle.ds_runs.specs.OrderLaws.{first_from};
 ghost use Rattle.gx_geometry.specs.States.{AreListsSince};
 ghost use Rattle.vram_banks.specs.Cells.{vram_written};
 ghost use Rattle.ds_ports.specs.Acting.{acting_io_dues};
@@ -22,7 +22,7 @@ ghost use Rattle.video2d.specs.Videos.{video_answer};
 use crate::processor_io::Before;
 use crate::registers::Register;
 use crate::units::{IoParts, Units};
-use ds_base::{Due, Proc, Space, Stop, Tick, Width};
+use ds_base::{Due, Proc, Space, Stop, Tick, Width, known};
 use ds_runs::Actor;
 use std::alloc::{AllocError, Global};
 use std::marker::Model;
@@ -246,7 +246,7 @@ impl Io {
         requires { IsEarly (Some now) }
         ensures { self.new ≡ settled now self.old }
     {
-        self.units.laws();
+        known!(self.units.laws());
         if !self.settled {
             self.settle_units(now);
         }
@@ -258,7 +258,7 @@ impl Io {
         requires { IsEarly (Some now) }
         ensures { self.new ≡ settled now self.old }
     {
-        self.units.laws();
+        known!(self.units.laws());
         if !self.units.find_settled() {
             self.units.settle(now);
             self.first = self.units.find_acting();

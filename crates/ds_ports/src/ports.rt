@@ -10,7 +10,7 @@ ghost use Rattle.ds_base.specs.declared.ticks.Tick.{Tick};
 ghost use Rattle.ds_ports.specs.Ports.{GoesAscending, byte_refusal, byte_written, first_stop, half_refusal, half_written, ignores, with_bytes_from, part, port_byte, port_half, port_read, port_refusal, port_value, port_word, port_written, slot_joined, slot_refusal, slot_value, slot_written, unless_stopped, whole_in, word_refusal, word_written};
 ghost use Rattle.gx_fifo.specs.GxStates.{AreWaiting, waiting_entries};
 ghost use Rattle.ds_ports.specs.Guards.{guarded_refusal, guarded_written, is_overfull};
-ghost use Rattle.ds_ports.specs.Happenings.{Goes, IsProcessorIo, HasOnlyLaterEvents};
+ghost use Rattle.ds_ports.specs.HappeningLaws.{Goes, IsProcessorIo, HasOnlyLaterEvents};
 ghost use Rattle.ds_ports.specs.RegisterMap.{IsSlot, StandsWhole, slot_of};
 ghost use Rattle.ds_ports.specs.Io.{IoState, io_of};
 ghost use Rattle.ds_ports.specs.declared.registers.Register.TheVariants.{GxCommand};

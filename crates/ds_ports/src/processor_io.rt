@@ -7,18 +7,18 @@ ghost use Rattle.ds_dma.specs.Channels.{channel_refusal, channel_word, unit_of};
 ghost use Rattle.ds_dma.specs.States.{channel_at, channel_due, dma_due, due_channel, most_waits, awaits_geometry};
 ghost use Rattle.ds_dma.specs.declared.controls.Cause.TheVariants.{Card};
 ghost use Rattle.ds_dma.specs.declared.controls.DmaPort.TheVariants.{Control};
-ghost use Rattle.ds_runs.specs.Order.{first_from};
+ghost use Rattle.ds_runs.specs.OrderLaws.{first_from};
 ghost use Rattle.ds_timers.specs.Irqs.{irq_levelled, line_is_up, shares_bit};
 ghost use Rattle.ds_timers.specs.Timing.{counter_of, overflow_of, timer_at, timer_due};
 ghost use Rattle.ds_ports.specs.Acting.{any_armed, is_armed};
-ghost use Rattle.ds_ports.specs.Happenings.{IsProcessorIo};
+ghost use Rattle.ds_ports.specs.HappeningLaws.{IsProcessorIo};
 ghost use Rattle.ds_ports.specs.Inside.{own_written};
 ghost use Rattle.ds_ports.specs.Io.{channel_comes_before, triggered_if};
 ghost use Rattle.ds_ports.specs.ProcessorIo.{before_move, control_written, dma_written, extkeyin_word, haltcnt_written, ie_written, if_written, ime_written, blocks_processor, keycnt_written, keyinput_word, keys_hold, keys_told, processor_io_at_boot, processor_io_moved, processor_io_put_back, processor_io_raised, processor_io_triggered, reload_written};
 ghost use Rattle.ds_ports.specs.Registers.{meaning_of};
 
 use crate::registers::Register;
-use ds_base::{Due, Interrupt, Proc, Stop, Tick};
+use ds_base::{Due, Interrupt, Proc, Stop, Tick, known};
 use ds_dma::{Cause, Dma, DmaPort, LastUnit, Unit};
 use ds_runs::{earlier, entry};
 use ds_timers::{Irq, Timers};
@@ -514,8 +514,8 @@ impl ProcessorIo {
     pub fn laws(&self)
         ensures { IsProcessorIo self.now }
     {
-        self.timers.laws();
-        self.dma.laws();
+        known!(self.timers.laws());
+        known!(self.dma.laws());
     }
 
     /// A write of all bytes of a register that is the processor's own.

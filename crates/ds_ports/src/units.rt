@@ -7,7 +7,7 @@ ghost use Rattle.std.specs.Prelude.{◌≡◌, ◌<◌, ◌^◌, ℕ, true, IfOk
 ghost use Rattle.ds_base.specs.Schedules.{IsEarly};
 ghost use Rattle.gx_geometry.specs.States.{AreListsSince};
 ghost use Rattle.vram_banks.specs.Cells.{vram_written};
-ghost use Rattle.ds_ports.specs.Happenings.{IsIo};
+ghost use Rattle.ds_ports.specs.HappeningLaws.{IsIo};
 ghost use Rattle.ds_ports.specs.Io.{both_raised, geometry_swapped, io_at_boot, io_of, io_of_parts, is_held, keys_pressed, with_halted};
 
 mod dues;
@@ -17,7 +17,7 @@ mod values;
 mod writes;
 
 use crate::processor_io::ProcessorIo;
-use ds_base::{Proc, Raised, Space, Tick, Width};
+use ds_base::{Proc, Raised, Space, Tick, Width, known};
 use ds_card::Card;
 use ds_ipc::Ipc;
 use ds_math::{Divider, Root};
@@ -301,9 +301,9 @@ impl Units {
     pub fn laws(&self)
         ensures { IsIo self.now }
     {
-        self.nine.laws();
-        self.seven.laws();
-        self.gx.laws();
+        known!(self.nine.laws());
+        known!(self.seven.laws());
+        known!(self.gx.laws());
     }
 
     /// From now on these keys are pressed, a bit for each.

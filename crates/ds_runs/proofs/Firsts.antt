@@ -2,7 +2,7 @@ use Rattle.std.proofs.Common.{ℕ, zero, suc, ◌≡◌, ◌<◌, ◌≤◌, ◌
 use Rattle.std.proofs.lemmas.Option.{same_Some, none-some}
 use Rattle.ds_base.specs.declared.ticks.Due.{Due}
 use Rattle.ds_base.specs.declared.ticks.Tick.{Tick}
-use Rattle.ds_runs.specs.Order.{due_with_rank, earlier, first_from}
+use Rattle.ds_runs.specs.OrderLaws.{due_with_rank, earlier, first_from}
 use Rattle.ds_runs.specs.Runs.{IsLeast, due_at}
 use Rattle.ds_runs.proofs.Lists.{first_least, pushed}
 

@@ -2,8 +2,8 @@ use Rattle.std.proofs.Common.{ℕ, ◌≡◌, ◌<◌, ◌⊎◌, inl, inr, List
 use Rattle.ds_base.specs.declared.ticks.Tick.{Tick}
 use Rattle.ds_runs.specs.Ahead.{MayRunAhead}
 use Rattle.ds_runs.specs.Lags.{MayLag}
-use Rattle.ds_runs.specs.Lasts.{IsLast, LeadsTo, here, step}
-use Rattle.ds_runs.specs.Runs.{IsLeast, TickMachine, Makes, Stops, Ending, Runs, over, stops, more}
+use Rattle.ds_runs.specs.LastLaws.{IsLast, LeadsTo, here, step}
+use Rattle.ds_runs.specs.Runs.{IsLeast, TickMachine, Makes, Stops}
 use Rattle.ds_runs.proofs.Ahead.{least_stays}
 use Rattle.ds_base.proofs.Choices.{same_or_not}
 use Rattle.ds_runs.proofs.Lists.{least_unique}
@@ -12,14 +12,6 @@ use Rattle.ds_runs.proofs.RunLaws.{same_makes, not_both}
 -- The last state of a run, where steps are taken in another order.
 
 module _ {S O L : Type 0} (m : TickMachine S O L) (limit : ℕ) where
-  -- each run has a last state
-  pub last_of_run : (end : Ending S L) (s : S) (outs : List O) → Runs m limit end s outs → (last : S) × LeadsTo m limit s last
-  last_of_run end s outs (over s0 none) = (s0, here s0 (inl none))
-  last_of_run end s outs (stops s0 after t r stop least below halts) =
-      (s0, here s0 (inr (record { tick = t; rank = r; stop = stop; after = after; least = least; below = below; halts = halts })))
-  last_of_run end s outs (more e0 s0 next t r outs₁ rest least below goes run) =
-      let k = last_of_run e0 next rest run in (k.0, step s0 next k.0 t r outs₁ least below goes k.1)
-
   -- where the least actor's step is taken, the run doesn't end before it
   not_last : (s next : S) (t : Tick) (r : ℕ) (outs : List O) → IsLeast (m.dues s) t r → t.0 < limit → m.step r s ≡ Makes next outs → IsLast m limit s → ⊥
   not_last s next t r outs least lt e (inl none) = (let le = none r t least.there in omega (arith, le, lt))

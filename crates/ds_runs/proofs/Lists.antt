@@ -1,4 +1,4 @@
-use Rattle.std.proofs.Common.{ℕ, zero, suc, ◌≡◌, ◌<◌, ◌≤◌, ◌+◌, ◌⊎◌, inl, inr, List, [], ◌∷◌, ◌++◌, length, Option, Some, None, refl, sym, ◌∙◌, ap, subst, arith}
+use Rattle.std.proofs.Common.{ℕ, zero, suc, ◌≡◌, ◌<◌, ◌≤◌, ◌⊎◌, inl, inr, List, [], ◌∷◌, length, Option, Some, None, refl, sym, ◌∙◌, ap, subst, arith}
 use Rattle.std.proofs.lemmas.Option.{same_Some, none-some}
 use Rattle.ds_base.specs.declared.ticks.Tick.{Tick}
 use Rattle.ds_base.specs.Schedules.{Reschedules, IsLater}
@@ -79,30 +79,6 @@ at_rank now [] (y ∷ ys) h rank = absurd h
 at_rank now (x ∷ xs) [] h rank = absurd h
 at_rank now (x ∷ xs) (y ∷ ys) h zero = h.0
 at_rank now (x ∷ xs) (y ∷ ys) h (suc rank) = at_rank now xs ys h.1 rank
-
--- due ticks that stay
-pub all_stay : (now : Tick) (dues : List (Option Tick)) → AllReschedule now dues dues
-all_stay now [] = tt
-all_stay now (d ∷ ds) = (inl refl, all_stay now ds)
-
--- the lists of two units one after the other
-pub all_join : (now : Tick) (a b c d : List (Option Tick)) → AllReschedule now a b → AllReschedule now c d → AllReschedule now (a ++ c) (b ++ d)
-all_join now [] [] c d h k = k
-all_join now [] (y ∷ ys) c d h k = absurd h
-all_join now (x ∷ xs) [] c d h k = absurd h
-all_join now (x ∷ xs) (y ∷ ys) c d h k = (h.0, all_join now xs ys c d h.1 k)
-
--- something holds of each entry of a list with its rank, from a rank on
-abbrev pub EachFrom : (ℕ → Option Tick → Type 0) → ℕ → List (Option Tick) → Type 0
-EachFrom P from [] = Unit {0}
-EachFrom P from (d ∷ ds) = P from d × EachFrom P (suc from) ds
-
-each_at : (P : ℕ → Option Tick → Type 0) (from : ℕ) (dues : List (Option Tick)) → EachFrom P from dues → (rank : ℕ) → rank < length dues → P (from + rank) (due_at dues rank)
-each_at P from [] h rank lt = absurd (omega (arith, lt))
-each_at P from (d ∷ ds) h zero lt = (let e : from ≡ from + 0 = omega arith in subst (λ (x : ℕ). P x d) e h.0)
-each_at P from (d ∷ ds) h (suc rank) lt =
-    let e : suc from + rank ≡ from + suc rank = omega arith in
-    subst (λ (x : ℕ). P x (due_at ds rank)) e (each_at P (suc from) ds h.1 rank (omega (arith, lt)))
 
 -- an entry doesn't step before the least
 abbrev pub IsNotBefore : Tick → ℕ → ℕ → Option Tick → Type 0

@@ -3,7 +3,7 @@ use Rattle.std.proofs.Math.Nat.{mul-le-mul_left}
 use Rattle.std.proofs.lemmas.Option.{same_Some, none-some}
 use Rattle.ds_base.specs.declared.ticks.Tick.{Tick}
 use Rattle.ds_runs.specs.Runs.{due_at}
-use Rattle.ds_runs.specs.Schedules.{places_remaining}
+use Rattle.ds_runs.specs.ScheduleLaws.{places_remaining}
 
 -- Places in the order of steps.
 

@@ -1,9 +1,9 @@
 pub mod Actors
 pub mod Ahead
 pub mod Lags
-pub mod Lasts
+pub mod LastLaws
 pub mod Laws
-pub mod Order
+pub mod OrderLaws
 pub mod Owed
 pub mod Runs
-pub mod Schedules
+pub mod ScheduleLaws

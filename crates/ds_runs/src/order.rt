@@ -1,7 +1,7 @@
 //! The order of steps.
 
 ghost use Rattle.std.specs.Prelude.{◌≡◌, Some};
-ghost use Rattle.ds_runs.specs.Order.{due_with_rank, earlier};
+ghost use Rattle.ds_runs.specs.OrderLaws.{due_with_rank, earlier};
 
 use ds_base::{Due, Tick};
 

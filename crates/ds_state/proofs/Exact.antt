@@ -2,17 +2,16 @@
 use Rattle.std.proofs.Common.{◌≡◌, ℕ, zero, suc, ◌+◌, ◌≤◌, Bool, true, false, List, [], ◌∷◌, ◌++◌, length, drop, Option, Some, None, Ok, Err, nat_lt, if◌then◌else◌, ap, sym, subst, ◌∙◌, refl, append_assoc, arith}
 use Rattle.std.proofs.lemmas.List.{length-append, take-append-drop}
 use Rattle.std.specs.List.{AllByRecursion}
-use Rattle.ds_state.specs.Formats.{Code, code_width, Fits, Format, done, then_field, then_part, list, code_bytes, bytes_of, bytes_each}
+use Rattle.ds_state.specs.Formats.{Code, code_width, Fits, Format, done, then_field, then_part, list, code_bytes}
+use Rattle.ds_state.proofs.Spelled.{bytes_of, bytes_each}
 use Rattle.ds_state.specs.Reading.{Left, ReadAnswer, ◌>>=◌, past, value, value_read, read_code, ruled, read_list, read_format}
-use Rattle.ds_state.specs.Laws.{Keeps, StandsFor, made, Says, IsExact, RoundTrips, OneSpelling}
+use Rattle.ds_state.proofs.Standing.{Keeps, StandsFor, made, Says, IsExact}
+use Rattle.ds_state.specs.FormatLaws.{RoundTrips, OneSpelling}
 use Rattle.ds_state.proofs.Written.{written_after}
 use Rattle.ds_state.proofs.Codes.{AreBytes, bytes_drop, long_enough, length_spelled, code_back, code_spells}
 
 abbrev left : ℕ → List ℕ → Left
 left place bytes = record { place = place; bytes = bytes }
-
-bind_ok : {A B : Type 0} {r : ReadAnswer A} {p : A × Left} (k : A × Left → ReadAnswer B) → r ≡ Ok p → (r >>= k) ≡ k p
-bind_ok k h = ap (λ r. r >>= k) h
 
 -- a value that keeps its field's rule is read back
 field_back : {V : Type 0} (c : Code V) (rule : V → Bool) (v : V) (place : ℕ) (rest : List ℕ) → Fits c v → rule v ≡ true

@@ -1,3 +1,5 @@
+pub mod Spelled
+pub mod Standing
 pub mod Codes
 pub mod Earlier
 pub mod Exact

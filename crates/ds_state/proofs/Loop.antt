@@ -1,6 +1,5 @@
 -- The step of a loop that reads a list.
-use Rattle.std.proofs.Common.{◌≡◌, ℕ, suc, ◌+◌, ◌-◌, ◌<◌, ◌≤◌, List, [], ◌∷◌, ◌++◌, Ok, Err, ap, sym, ◌∙◌, refl, append_assoc, arith}
-use Rattle.std.proofs.lemmas.List.{append-nil}
+use Rattle.std.proofs.Common.{◌≡◌, ℕ, suc, ◌+◌, ◌-◌, ◌<◌, List, [], ◌∷◌, ◌++◌, Ok, Err, ap, sym, ◌∙◌, refl, append_assoc, arith}
 use Rattle.ds_state.specs.declared.unpacker.Unpacked.{Unpacked}
 use Rattle.ds_state.specs.declared.unpacker.Unpacked.TheVariants.{NoMemory, Bad}
 use Rattle.ds_state.specs.Reading.{Left, ReadAnswer, ◌>>=◌, read_list, Fails, FailsIn}
@@ -31,10 +30,3 @@ ends (Bad o) reader front count i l total lt h so_far =
 pub fails_in : {Y : Type 0} (e : Unpacked) (r : ReadAnswer Y) → Fails e r → FailsIn e r
 fails_in NoMemory r h = tt
 fails_in (Bad o) r h = h
-
--- all are read
-pub is_done : {T : Type 0} (reader : Left → ReadAnswer T) (front : List T) (count i : ℕ) (l : Left) (total : ReadAnswer (List T)) → count ≤ i → with_front front (read_list reader (count - i) l) ≡ total → total ≡ Ok (front, l)
-is_done {T = T} reader front count i l total le so_far =
-    let k : count - i ≡ 0 = omega arith in
-    let one : with_front front (read_list reader (count - i) l) ≡ Ok (front, l) = rw k (ap (λ (ns : List T). Ok (ns, l)) (append-nil front)) in
-    sym so_far ∙ one

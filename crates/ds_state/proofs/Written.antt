@@ -1,7 +1,8 @@
 -- What is put after other bytes are the state's bytes.
 use Rattle.std.proofs.Common.{◌≡◌, ℕ, List, [], ◌∷◌, ◌++◌, ap, sym, ◌∙◌, append_assoc}
 use Rattle.std.proofs.lemmas.List.{append-nil}
-use Rattle.ds_state.specs.Formats.{Format, done, then_field, then_part, list, code_bytes, bytes_written, written_each, bytes_of, bytes_each}
+use Rattle.ds_state.specs.Formats.{Format, done, then_field, then_part, list, code_bytes, bytes_written, written_each}
+use Rattle.ds_state.proofs.Spelled.{bytes_of, bytes_each}
 
 each_after : {T : Type 0} (write : List ℕ → T → List ℕ) (bytes : T → List ℕ) → ((before : List ℕ) (t : T) → write before t ≡ before ++ bytes t)
     → (before : List ℕ) (ts : List T) → written_each write before ts ≡ before ++ bytes_each bytes ts

@@ -58,17 +58,6 @@ pub data Format : Type 0 → Type 0 → Type 1 where
   then_part : {S A T : Type 0} → Format T T → (S → T) → (T → Format S A) → Format S A
   list : {S A T : Type 0} → ℕ → Format T T → (S → List T) → (List T → Format S A) → Format S A
 
--- the bytes of a state
-abbrev pub bytes_each : {T : Type 0} → (T → List ℕ) → List T → List ℕ
-bytes_each bytes [] = []
-bytes_each bytes (t ∷ ts) = bytes t ++ bytes_each bytes ts
-
-abbrev pub bytes_of : {S A : Type 0} → Format S A → S → List ℕ
-bytes_of (done a) s = []
-bytes_of (then_field c get rule next) s = code_bytes c (get s) ++ bytes_of (next (get s)) s
-bytes_of (then_part f get next) s = bytes_of f (get s) ++ bytes_of (next (get s)) s
-bytes_of (list n f get next) s = bytes_each (bytes_of f) (get s) ++ bytes_of (next (get s)) s
-
 -- the same after others, as they are put
 abbrev pub written_each : {T : Type 0} → (List ℕ → T → List ℕ) → List ℕ → List T → List ℕ
 written_each write before [] = before

@@ -1,4 +1,4 @@
 pub mod Formats
-pub mod Laws
+pub mod FormatLaws
 pub mod Loops
 pub mod Reading

@@ -3,7 +3,7 @@ use Rattle.std.specs.Int.{bit_not, w32}
 use Rattle.ds_base.specs.declared.processors.Proc.{Proc}
 use Rattle.ds_base.specs.declared.ticks.Tick.{Tick}
 use Rattle.ds_state.specs.Formats.{Format, number_code, flag_code, done, ◌>>=◌, one_field, its, any, keeps_mask, bytes_written}
-use Rattle.ds_state.specs.Laws.{OneSpelling, RoundTrips}
+use Rattle.ds_state.specs.FormatLaws.{OneSpelling, RoundTrips}
 use Rattle.ds_timers.specs.Irqs.{IrqState, IsIrq, events, interrupts_of, irq_levelled, level, shares_bit}
 use Rattle.ds_timers.specs.Timing.{AreTimers, TimerState, pace, runs_free, timer_at, timer_due}
 

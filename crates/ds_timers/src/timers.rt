@@ -10,7 +10,7 @@ ghost use Rattle.ds_timers.specs.Timing.{AreTimers, ChangesControl, CountsFrom, 
 
 mod saved;
 
-use ds_base::{Interrupt, Tick};
+use ds_base::{Interrupt, Tick, known};
 use std::marker::Model;
 
 /// The bits that a control keeps.
@@ -260,7 +260,7 @@ impl Timers {
         ensures schedule { (now : Tick) (each : ℕ) → each < 4
             → Reschedules now (timer_due (timer_at self.old each)) (timer_due (timer_at self.new each)) }
     {
-        self.laws();
+        known!(self.laws());
         let timer = self.timer(which);
         self.put(
             which,
@@ -285,7 +285,7 @@ impl Timers {
         ensures schedule { IsLater now (timer_due (timer_at self.old which)) → (each : ℕ) → each < 4
             → Reschedules now (timer_due (timer_at self.old each)) (timer_due (timer_at self.new each)) }
     {
-        self.laws();
+        known!(self.laws());
         let timer = with_control(which, self.timer(which), value & KEPT, now);
         self.put(which, timer);
     }
@@ -313,7 +313,7 @@ impl Timers {
         ensures schedule { (now : Tick) (each : ℕ) → each < 4 → timer_due (timer_at self.old which) ≡ Some now
             → Reschedules now (timer_due (timer_at self.old each)) (timer_due (timer_at self.new each)) }
     {
-        self.laws();
+        known!(self.laws());
         let zero = passed(which, 0, false, self.timer(0));
         let one = passed(which, 1, zero.overflows, self.timer(1));
         let two = passed(which, 2, one.overflows, self.timer(2));

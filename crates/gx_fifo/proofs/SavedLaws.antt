@@ -8,7 +8,7 @@ use Rattle.ds_base.specs.declared.ticks.Tick.{Tick}
 use Rattle.ds_base.proofs.DueNumbers.{due_again, number_again}
 use Rattle.ds_base.proofs.Choices.{both_true, is_le}
 use Rattle.ds_state.specs.Formats.{keeps_mask, bytes_written}
-use Rattle.ds_state.specs.Laws.{IsExact, StandsFor}
+use Rattle.ds_state.proofs.Standing.{IsExact, StandsFor}
 use Rattle.ds_state.proofs.Exact.{one_spelling, round_trips}
 use Rattle.ds_state.proofs.Masks.{kept_top}
 use Rattle.ds_state.proofs.Soon.{soon_fits}

@@ -115,21 +115,10 @@ stops_left word small h = elim (stopped word h) [
   | inr some ↦ some_left word small some
 ]
 
--- where no parameter was given yet
-pub stops_given : (word : ℕ) → stops_at word ≡ true → is_given word 0 ≡ true
-stops_given word h = grind (arith, h)
-
 -- a byte's command, and then those above it, need no more room than all
 both : (first : Option GeometryCommand) (rest : List GeometryCommand) → length (cons_option first rest) ≡ length (option_to_list first) + length rest
 both None rest = omega arith
 both (Some command) rest = omega arith
-
-pub room_first : (word n most : ℕ) → word < 2 ^ 32 → n + length (packed_commands word) ≤ most
-    → n + length (option_to_list (first_command word)) ≤ most
-room_first word n most small h =
-    let e = ap (λ (cs : List GeometryCommand). length cs) (one_by_one word small) in
-    let s = both (first_command word) (packed_commands (word / 2 ^ 8)) in
-    omega (arith, e, s, h)
 
 pub room_rest : (word : ℕ) (es : List GxEntry) (most : ℕ) → word < 2 ^ 32 → length es + length (packed_commands word) ≤ most
     → length (es ++ map without_word (option_to_list (first_command word))) + length (packed_commands (word / 2 ^ 8)) ≤ most

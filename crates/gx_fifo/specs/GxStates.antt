@@ -5,7 +5,7 @@ use Rattle.ds_base.specs.declared.ticks.Tick.{Tick}
 use Rattle.gx_matrix.specs.CommandTable.{command_of}
 use Rattle.gx_matrix.specs.Commands.{clip_of, levels_of}
 use Rattle.gx_matrix.specs.declared.commands.GeometryCommand.{GeometryCommand}
-use Rattle.gx_geometry.specs.Bounds.{IsGeometry}
+use Rattle.gx_geometry.specs.BoundLaws.{IsGeometry}
 use Rattle.gx_geometry.specs.States.{GeometryState, geometry_at_boot, geometry_after, geometry_error_cleared, overflow_cleared, swapped}
 use Rattle.gx_fifo.specs.Entries.{entries_taken, words_taken, complete_command, begun, asks_for_swap, is_tested, is_stacked, kind_waits, most_entries}
 use Rattle.gx_fifo.specs.PackedWords.{FifoState, fifo_at_boot, is_given, word_taken, entry_added}

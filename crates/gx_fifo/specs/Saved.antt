@@ -2,11 +2,12 @@ use Rattle.std.specs.Prelude.{ℕ, ◌≡◌, ◌<◌, ◌≤◌, ◌-◌, ◌^�
 use Rattle.std.specs.List.{AllByRecursion}
 use Rattle.ds_base.specs.Schedules.{due_number, numbered_due}
 use Rattle.ds_state.specs.Formats.{Format, number_code, flag_code, tick, done, ◌>>=◌, one_field, its, each, any, at_most, keeps_mask, soon, bytes_written}
-use Rattle.ds_state.specs.Laws.{OneSpelling, RoundTrips}
+use Rattle.ds_state.specs.FormatLaws.{OneSpelling, RoundTrips}
 use Rattle.gx_matrix.specs.CommandTable.{command_of, command_row}
 use Rattle.gx_matrix.specs.declared.commands.GeometryCommand.{GeometryCommand}
 use Rattle.gx_matrix.specs.declared.commands.GeometryCommand.TheVariants.{MtxMode}
-use Rattle.gx_geometry.specs.Saved.{HasBounds, IsSavedGeometry, geometry_format}
+use Rattle.gx_geometry.specs.SavedLaws.{HasBounds, IsSavedGeometry}
+use Rattle.gx_geometry.specs.Saved.{geometry_format}
 use Rattle.gx_fifo.specs.declared.entries.GxEntry.{GxEntry}
 use Rattle.gx_fifo.specs.declared.gx.saved.Asked.{Asked}
 use Rattle.gx_fifo.specs.Entries.{complete_command, most_entries}

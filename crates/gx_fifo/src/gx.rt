@@ -15,7 +15,7 @@ mod saved;
 use crate::entries::Entries;
 use crate::packed::Fifo;
 use crate::ports::{GxPort, port_at};
-use ds_base::Tick;
+use ds_base::{Tick, known};
 use gx_geometry::{Geometry, Lists};
 use gx_matrix::GeometryCommand;
 pub use saved::{Asked, saved_laws};
@@ -402,7 +402,7 @@ impl Gx {
         ensures is { IsGx self.now }
         ensures run { AddsOneVertex self.now (gx_finished self.now) }
     {
-        self.engine.laws();
+        known!(self.engine.laws());
         let _entries = self.fifo.entries();
     }
 

@@ -12,7 +12,7 @@ use Rattle.gx_geometry.specs.Numbers.{no_light, numbers_at_boot}
 use Rattle.gx_geometry.specs.Lights.{lit_channel, lit_colour, turned}
 use Rattle.gx_geometry.specs.Changes.{numbers_drawn, numbers_lit, numbers_after, normal_given, coordinates_given, vertex_given, diffuse_given, specular_given, light_pointed, light_coloured, run_begun, gives_vertex}
 use Rattle.gx_geometry.specs.States.{GeometryState, geometry_after}
-use Rattle.gx_geometry.specs.Bounds.{is_shaped, AreSmall, AreLimited, HaveColours, HavePalettes, HaveShapes}
+use Rattle.gx_geometry.specs.BoundLaws.{is_shaped, AreSmall, AreLimited, HaveColours, HavePalettes, HaveShapes}
 
 -- Commands keep colours to fifteen bits and palettes to thirteen, and add at most one vertex to a run.
 

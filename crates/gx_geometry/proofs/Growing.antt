@@ -11,7 +11,7 @@ use Rattle.gx_geometry.specs.declared.polygons.Polygon.{Polygon}
 use Rattle.gx_geometry.specs.Records.{NumbersState}
 use Rattle.gx_geometry.specs.Changes.{numbers_after, gives_vertex}
 use Rattle.gx_geometry.specs.Polygons.{Arrival, arrival_of, no_place, place_since, polygon_of, polygon_among, polygon_at, polygon_by, corners, completed, has_corners, most_vertices, most_polygons}
-use Rattle.gx_geometry.specs.Lists.{GeometryAct, Command, ClearError, ClearOverflow, arrivals, polygons_of, vertices_of}
+use Rattle.gx_geometry.specs.ListLaws.{GeometryAct, Command, ClearError, ClearOverflow, arrivals, polygons_of, vertices_of}
 use Rattle.gx_geometry.specs.States.{OutcomeState, GeometryState, IsFresh, AreListsSince, four_recent, none_recent, then_recent, vertex_dropped, polygon_added, vertex_added, arrived, tested, outcome_after, geometry_after, geometry_error_cleared, overflow_cleared, after_all}
 use Rattle.gx_geometry.proofs.Backs.{Agrees, same_polygon}
 use Rattle.gx_geometry.proofs.Recent.{recent_polygon, run_by, run_by_command}

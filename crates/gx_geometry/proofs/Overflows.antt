@@ -9,7 +9,8 @@ use Rattle.gx_geometry.specs.declared.polygons.Vertex.{Vertex}
 use Rattle.gx_geometry.specs.declared.polygons.Polygon.{Polygon}
 use Rattle.gx_geometry.specs.Changes.{numbers_after, gives_vertex}
 use Rattle.gx_geometry.specs.Polygons.{Arrival, arrival_of, polygon_of, polygon_among, most_vertices, most_polygons}
-use Rattle.gx_geometry.specs.Lists.{GeometryAct, Command, ClearError, ClearOverflow, numbers_cleared, arrivals, polygons_of, vertices_of, AreNoClear}
+use Rattle.gx_geometry.specs.ListLaws.{GeometryAct, Command, ClearError, ClearOverflow, arrivals, polygons_of, vertices_of, AreNoClear}
+use Rattle.gx_geometry.specs.Lists.{numbers_cleared}
 use Rattle.gx_geometry.specs.States.{OutcomeState, GeometryState, IsOverflowSince, four_recent, polygon_added, vertex_added, arrived, tested, geometry_after, geometry_error_cleared, overflow_cleared, after_all}
 use Rattle.gx_geometry.proofs.Growing.{arrived_room, arrived_full, dropped, command_linked, fresh_linked, Holds, IsLinked, polygons_with, same_given, SamePolygon, step_holds, step_vertices, step_polygons, tested_holds, grown, fresh_holds}
 

@@ -7,7 +7,8 @@ use Rattle.gx_geometry.specs.Records.{NumbersState}
 use Rattle.gx_geometry.specs.Changes.{numbers_drawn, numbers_lit, numbers_after, normal_given, coordinates_given, vertex_given, diffuse_given, specular_given, light_pointed, light_coloured, run_begun, gives_vertex}
 use Rattle.gx_geometry.specs.Polygons.{Arrival, arrival_of, no_place, polygon_among, most_vertices, most_polygons}
 use Rattle.gx_geometry.specs.States.{OutcomeState, GeometryState, four_recent, none_recent, then_recent, overflown, polygon_added, vertex_added, vertex_dropped, arrived, tested, outcome_after, geometry_after}
-use Rattle.gx_geometry.specs.Bounds.{is_place, ArePlaces, is_told, AreTold}
+use Rattle.gx_geometry.specs.Bounds.{is_place, is_told}
+use Rattle.gx_geometry.specs.BoundLaws.{ArePlaces, AreTold}
 
 -- The places of a run's last three vertices, command by command.
 

@@ -1,8 +1,8 @@
 use Rattle.std.proofs.Common.{rules, ℕ, ℤ, FitsSigned, zero, suc, ◌≡◌, ◌<◌, ◌≤◌, ◌^◌, true, nat_le, List, [], ◌∷◌, length, slice_index, slice_index_or, refl, ap, arith}
 use Rattle.std.specs.Int.{w32}
 use Rattle.std.specs.List.{AllByRecursion}
-use Rattle.ds_state.specs.Formats.{signed_format, word_format}
-use Rattle.ds_state.specs.Laws.{IsExact, StandsFor}
+use Rattle.ds_state.specs.Formats.{signed_format}
+use Rattle.ds_state.proofs.Standing.{IsExact, StandsFor}
 use Rattle.ds_state.proofs.Exact.{one_spelling, round_trips}
 use Rattle.gx_matrix.proofs.SavedLaws.{stacks_exact, stacks_stand}
 use Rattle.gx_geometry.specs.Numbers.{kind_of, no_light}
@@ -14,7 +14,8 @@ use Rattle.gx_geometry.specs.Bounds.{is_place}
 use Rattle.gx_geometry.specs.Polygons.{most_vertices, most_polygons}
 use Rattle.gx_geometry.specs.Records.{LightState}
 use Rattle.gx_geometry.specs.States.{GeometryState, Swapped, no_swap}
-use Rattle.gx_geometry.specs.Saved.{GeometryIsSaved, IsSavedGeometry, AreCurrent, AreLighting, AreTestResults, AreSwapped, IsLight, IsPolygon, IsVertex, CurrentNumbers, LightingNumbers, TestResults, signed_at, holds_recent, unless_none, vertex_format, polygon_format, current_format, light_format, lighting_format, results_format, lists_format, geometry_format, run_kind_number}
+use Rattle.gx_geometry.specs.SavedLaws.{GeometryIsSaved, IsSavedGeometry, AreCurrent, AreLighting, AreTestResults, AreSwapped, IsLight, IsPolygon, IsVertex}
+use Rattle.gx_geometry.specs.Saved.{CurrentNumbers, LightingNumbers, TestResults, signed_at, holds_recent, unless_none, vertex_format, polygon_format, current_format, light_format, lighting_format, results_format, lists_format, geometry_format, run_kind_number}
 
 -- What the geometry engine owes of its format.
 
@@ -37,24 +38,18 @@ light_exact at = λ x _ _ y _ _ z _ _ colour _ _. search rules
 signed_exact : (at : ℕ) → IsExact signed_format at
 signed_exact at = λ w _ _. (refl, tt)
 
-word_exact : (at : ℕ) → IsExact word_format at
-word_exact at = λ w _ _. (refl, tt)
-
 lighting_exact : (at : ℕ) → IsExact lighting_format at
 unfolding lighting_format
-lighting_exact at = λ diffuse _ _ ambient _ _ specular _ _ emission _ _ by_table _ _. (
-  word_exact at,
-  λ table long _. (
+lighting_exact at = λ diffuse _ _ ambient _ _ specular _ _ emission _ _ by_table _ _ table _ _. (
+  light_exact at,
+  λ first _. (
     light_exact at,
-    λ first _. (
+    λ second _. (
       light_exact at,
-      λ second _. (
+      λ third _. (
         light_exact at,
-        λ third _. (
-          light_exact at,
-          λ fourth _.
-              search rules,
-        ),
+        λ fourth _.
+            search rules,
       ),
     ),
   ),
@@ -166,10 +161,6 @@ signed_stand : (at : ℕ) (ws : List ℤ) → AllByRecursion (λ x. FitsSigned w
 signed_stand at [] h = tt
 signed_stand at (w ∷ ws) h = (((h.0, refl, tt), refl), signed_stand at ws h.1)
 
-words_stand : (at : ℕ) (ws : List ℕ) → AllByRecursion (λ w. w < 2 ^ 32) ws → AllByRecursion (StandsFor word_format at) ws
-words_stand at [] h = tt
-words_stand at (w ∷ ws) h = (((h.0, refl, tt), refl), words_stand at ws h.1)
-
 current_stands : (at : ℕ) (n : CurrentNumbers) → AreCurrent n → StandsFor current_format at n
 unfolding current_format
 current_stands at n are =
@@ -191,8 +182,7 @@ lighting_stands : (at : ℕ) (n : LightingNumbers) → AreLighting n → StandsF
 unfolding lighting_format
 lighting_stands at n are =
     let diffuse = are.diffuse in let ambient = are.ambient in let specular = are.specular in let emission = are.emission in
-    let words = are.words in
-    let table = words_stand at n.table are.table in
+    let bytes = are.bytes in
     let first = light_stands at _ (light_among n.lights are.lights 0 (omega (arith, are.four))) in
     let second = light_stands at _ (light_among n.lights are.lights 1 (omega (arith, are.four))) in
     let third = light_stands at _ (light_among n.lights are.lights 2 (omega (arith, are.four))) in

@@ -4,18 +4,15 @@ use Rattle.std.specs.List.{AllByRecursion}
 use Rattle.gx_geometry.specs.declared.numbers.Light.{Light}
 use Rattle.gx_geometry.specs.declared.polygons.Polygon.{Polygon}
 use Rattle.gx_geometry.specs.declared.polygons.Vertex.{Vertex}
-use Rattle.gx_geometry.specs.Bounds.{HaveColours, HavePalettes, HaveShapes, is_shaped, no_polygon}
+use Rattle.gx_geometry.specs.BoundLaws.{HaveColours, HavePalettes, HaveShapes, is_shaped, no_polygon}
 use Rattle.gx_geometry.specs.Numbers.{no_light}
 use Rattle.gx_geometry.specs.Polygons.{no_vertex}
 use Rattle.gx_geometry.specs.RecordsKept.{light_seen}
-use Rattle.gx_geometry.specs.Saved.{IsLight, IsPolygon, IsVertex, has_corner_count, may_be_fourth}
+use Rattle.gx_geometry.specs.SavedLaws.{IsLight, IsPolygon, IsVertex}
+use Rattle.gx_geometry.specs.Saved.{has_corner_count, may_be_fourth}
 use Rattle.gx_geometry.specs.SavedKept.{FitsLight, FitsPolygon, FitsVertex, dark_light}
 
 -- What is known of each place of a list is known of all.
-
-pub all_words : (xs : List ℕ) → ((i : ℕ) → i < length xs → slice_index xs i < 2 ^ 32) → AllByRecursion (λ w. w < 2 ^ 32) xs
-all_words [] h = tt
-all_words (x ∷ xs) h = (h 0 (omega arith), all_words xs (λ i l. h (suc i) (omega (arith, l))))
 
 pub all_signed : (xs : List ℤ) → ((i : ℕ) → i < length xs → FitsSigned w32 (slice_index_or xs i (pos 0))) → AllByRecursion (λ x. FitsSigned w32 x) xs
 all_signed [] h = tt

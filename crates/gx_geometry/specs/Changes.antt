@@ -1,4 +1,5 @@
-use Rattle.std.specs.Prelude.{ℕ, ◌+◌, ◌==◌, if◌then◌else◌, Bool, true, false, ℤ, List, slice_index, slice_set}
+use Rattle.std.specs.Prelude.{ℕ, ◌+◌, ◌==◌, if◌then◌else◌, Bool, true, false, ℤ, List, flat_map, slice_index, slice_set}
+use Rattle.byteorder.specs.Endian.{little_bytes}
 use Rattle.ds_base.specs.Bits.{bits, bit}
 use Rattle.line_lanes.specs.Matrices.{at}
 use Rattle.gx_matrix.specs.Commands.{commanded}
@@ -94,7 +95,7 @@ numbers_lit DifAmb params s = diffuse_given (slice_index params 0) s
 numbers_lit SpeEmi params s = specular_given (slice_index params 0) s
 numbers_lit LightVector params s = light_pointed (slice_index params 0) s
 numbers_lit LightColor params s = light_coloured (slice_index params 0) s
-numbers_lit Shininess params s = record s { table = params }
+numbers_lit Shininess params s = record s { table = flat_map (little_bytes 4) params }
 numbers_lit command params s = numbers_drawn command params s
 
 unfoldable pub numbers_after : GeometryCommand → List ℕ → NumbersState → NumbersState

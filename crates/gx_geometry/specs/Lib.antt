@@ -8,7 +8,10 @@ pub mod Changes
 pub mod Polygons
 pub mod Backs
 pub mod Lists
+pub mod ListLaws
 pub mod States
 pub mod Bounds
+pub mod BoundLaws
 pub mod Saved
+pub mod SavedLaws
 pub mod SavedKept

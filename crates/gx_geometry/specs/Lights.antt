@@ -1,4 +1,4 @@
-use Rattle.std.specs.Prelude.{ℕ, ◌+◌, ◌*◌, ◌/◌, ◌%◌, ◌^◌, if◌then◌else◌, min, ℤ, pos, negsuc, neg_ℤ, ◌+ℤ◌, ◌-ℤ◌, ◌*ℤ◌, List, [], ◌∷◌, slice_index, slice_index_or}
+use Rattle.std.specs.Prelude.{ℕ, ◌+◌, ◌*◌, ◌/◌, ◌^◌, if◌then◌else◌, min, ℤ, pos, negsuc, neg_ℤ, ◌+ℤ◌, ◌-ℤ◌, ◌*ℤ◌, List, [], ◌∷◌, slice_index, slice_index_or}
 use Rattle.std.specs.Int.{int_div_euclid}
 use Rattle.ds_base.specs.Bits.{bits, bit}
 use Rattle.line_lanes.specs.Matrices.{at, transform4}
@@ -34,12 +34,9 @@ abbrev pub half : ℤ → ℤ
 half z = int_div_euclid z (pos 2)
 
 -- The levels of a light on a normal: the diffuse one, and the specular one, which is the square of the half vector's, or comes from the table of 128
--- bytes, which stand four to a word (GBATEK, SHININESS)
-unfoldable pub table_byte : List ℕ → ℕ → ℕ
-table_byte table i = slice_index table (i / 4) / 2 ^ (8 * (i % 4)) % 2 ^ 8
-
+-- bytes (GBATEK, SHININESS)
 abbrev pub shine : MaterialState → List ℕ → ℕ → ℕ
-shine material table e = if material.by_table then 2 * table_byte table (e * e / 512 / 4) else e * e / 512
+shine material table e = if material.by_table then 2 * slice_index table (e * e / 512 / 4) else e * e / 512
 
 unfoldable pub light_levels : MaterialState → List ℕ → LightState → List ℤ → Levels
 light_levels material table light n = record {

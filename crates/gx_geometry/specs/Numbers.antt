@@ -59,7 +59,7 @@ abbrev pub no_coordinates : CoordinatesState
 no_coordinates = record { s = pos 0; t = pos 0 }
 
 unfoldable pub no_table : List ℕ
-no_table = replicate 32 0
+no_table = replicate 128 0
 
 unfoldable pub numbers_at_boot : NumbersState
 numbers_at_boot = record {

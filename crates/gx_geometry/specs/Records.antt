@@ -51,7 +51,7 @@ pub record NumbersState : Type 0 where
   -- the viewport (GBATEK, VIEWPORT)
   pub viewport : ℕ
   pub material : MaterialState
-  -- the table of 128 bytes, as 32 words (GBATEK, SHININESS)
+  -- the table of 128 bytes (GBATEK, SHININESS)
   pub table : List ℕ
   -- the four lights
   pub lights : List LightState

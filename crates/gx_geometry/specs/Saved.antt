@@ -1,18 +1,15 @@
-use Rattle.std.specs.Prelude.{ℕ, ℤ, FitsSigned, ◌≡◌, ◌<◌, ◌≤◌, ◌^◌, ◌==◌, ◌&&◌, ◌||◌, not, nat_le, Bool, true, List, [], ◌∷◌, length, pos, slice_index, slice_index_or}
-use Rattle.std.specs.Int.{w16, w32}
-use Rattle.std.specs.List.{AllByRecursion}
-use Rattle.ds_state.specs.Formats.{Format, number_code, flag_code, signed_word, signed_half_code, done, ◌>>=◌, one_field, its, each, any, at_most, word_format, signed_format}
-use Rattle.ds_state.specs.Laws.{OneSpelling, RoundTrips}
-use Rattle.gx_matrix.specs.Saved.{AreStacks, stacks_format}
+use Rattle.std.specs.Prelude.{ℕ, ℤ, ◌==◌, ◌&&◌, ◌||◌, not, nat_le, Bool, List, [], ◌∷◌, length, pos, slice_index, slice_index_or}
+use Rattle.ds_state.specs.Formats.{Format, number_code, flag_code, signed_word, signed_half_code, array, done, ◌>>=◌, one_field, its, each, any, at_most, signed_format}
+use Rattle.gx_matrix.specs.Saved.{stacks_format}
 use Rattle.gx_geometry.specs.declared.numbers.Kind.{Kind}
 use Rattle.gx_geometry.specs.declared.numbers.Kind.TheVariants.{Triangles, Quads, TriangleStrip, QuadStrip}
 use Rattle.gx_geometry.specs.declared.polygons.Vertex.{Vertex}
 use Rattle.gx_geometry.specs.declared.polygons.Polygon.{Polygon}
-use Rattle.gx_geometry.specs.Bounds.{is_place, is_told, ArePlaces, AreTold}
+use Rattle.gx_geometry.specs.Bounds.{is_place, is_told}
 use Rattle.gx_geometry.specs.Numbers.{kind_of, no_light}
 use Rattle.gx_geometry.specs.Polygons.{most_vertices, most_polygons}
 use Rattle.gx_geometry.specs.Records.{CoordinatesState, GivenPointState, LightState, MaterialState, NumbersState}
-use Rattle.gx_geometry.specs.States.{GeometryState, OutcomeState, Swapped, no_swap}
+use Rattle.gx_geometry.specs.States.{GeometryState, OutcomeState, Swapped}
 
 -- The geometry engine in bytes: the matrices, the numbers that commands keep, the results of tests, the open lists, and the lists of the last swap.
 
@@ -109,7 +106,7 @@ current_format = do
     viewport = viewport;
   })
 
--- a light, and all that lighting asks: the material, the shininess table of 32 words, the four lights
+-- a light, and all that lighting asks: the material, the shininess table of 128 bytes, the four lights
 unfoldable pub light_format : Format LightState LightState
 light_format = do
   x ← one_field signed_word (λ l. l.x) any
@@ -133,7 +130,7 @@ lighting_format = do
   specular ← one_field (number_code 2) (λ n. n.material.specular) (at_most 0x7FFF)
   emission ← one_field (number_code 2) (λ n. n.material.emission) (at_most 0x7FFF)
   by_table ← one_field flag_code (λ n. n.material.by_table) any
-  table ← each 32 word_format (λ n. n.table)
+  table ← one_field (array 128) (λ n. n.table) any
   first ← its light_format (λ n. slice_index_or n.lights 0 no_light)
   second ← its light_format (λ n. slice_index_or n.lights 1 no_light)
   third ← its light_format (λ n. slice_index_or n.lights 2 no_light)
@@ -242,99 +239,3 @@ geometry_format = do
     };
     last = last;
   })
-
--- what holds of each number of an engine, so that it has a spelling
-pub record IsVertex (v : Vertex) : Type 0 where
-  pub x : FitsSigned w32 v.x
-  pub y : FitsSigned w32 v.y
-  pub z : FitsSigned w32 v.z
-  pub w : FitsSigned w32 v.w
-  pub colour : v.colour < 2 ^ 15
-  pub s : FitsSigned w16 v.s
-  pub t : FitsSigned w16 v.t
-
-pub record IsPolygon (p : Polygon) : Type 0 where
-  pub attributes : p.attributes < 2 ^ 32
-  pub texture : p.texture < 2 ^ 32
-  pub palette : p.palette < 2 ^ 13
-  pub viewport : p.viewport < 2 ^ 32
-  pub corners : has_corner_count 0 p.corners ≡ true
-  pub four : length p.indices ≡ 4
-  pub first : slice_index p.indices 0 < 2 ^ 16
-  pub second : slice_index p.indices 1 < 2 ^ 16
-  pub third : slice_index p.indices 2 < 2 ^ 16
-  pub fourth : slice_index p.indices 3 < 2 ^ 16
-  pub unused : may_be_fourth p.corners 0 (slice_index p.indices 3) ≡ true
-
-pub record AreCurrent (n : CurrentNumbers) : Type 0 where
-  pub colour : n.colour < 2 ^ 15
-  pub x : FitsSigned w16 n.point.x
-  pub y : FitsSigned w16 n.point.y
-  pub z : FitsSigned w16 n.point.z
-  pub raw_s : FitsSigned w16 n.raw.s
-  pub raw_t : FitsSigned w16 n.raw.t
-  pub s : FitsSigned w16 n.coordinates.s
-  pub t : FitsSigned w16 n.coordinates.t
-  pub set : n.set < 2 ^ 32
-  pub attributes : n.attributes < 2 ^ 32
-  pub texture : n.texture < 2 ^ 32
-  pub palette : n.palette < 2 ^ 13
-  pub viewport : n.viewport < 2 ^ 32
-
-pub record IsLight (l : LightState) : Type 0 where
-  pub x : FitsSigned w32 l.x
-  pub y : FitsSigned w32 l.y
-  pub z : FitsSigned w32 l.z
-  pub colour : l.colour < 2 ^ 15
-
-pub record AreLighting (n : LightingNumbers) : Type 0 where
-  pub diffuse : n.material.diffuse < 2 ^ 15
-  pub ambient : n.material.ambient < 2 ^ 15
-  pub specular : n.material.specular < 2 ^ 15
-  pub emission : n.material.emission < 2 ^ 15
-  pub words : length n.table ≡ 32
-  pub table : AllByRecursion (λ w. w < 2 ^ 32) n.table
-  pub four : length n.lights ≡ 4
-  pub lights : AllByRecursion IsLight n.lights
-
-pub record AreTestResults (r : TestResults) : Type 0 where
-  pub four : length r.position ≡ 4
-  pub position : AllByRecursion (λ x. FitsSigned w32 x) r.position
-  pub three : length r.vector ≡ 3
-  pub a : FitsSigned w16 (signed_at r.vector 0)
-  pub b : FitsSigned w16 (signed_at r.vector 1)
-  pub c : FitsSigned w16 (signed_at r.vector 2)
-
-pub record AreSwapped (l : Swapped) : Type 0 where
-  pub parameter : l.parameter < 2 ^ 32
-  pub vertex_count : length l.vertices ≤ most_vertices
-  pub polygon_count : length l.polygons ≤ most_polygons
-  pub vertices : AllByRecursion IsVertex l.vertices
-  pub polygons : AllByRecursion IsPolygon l.polygons
-
--- so it is at every time
-pub record HasBounds (g : GeometryState) : Type 0 where
-  pub stacks : AreStacks g.numbers.stacks
-  pub parameter : g.numbers.parameter < 2 ^ 32
-  pub current : AreCurrent (current_numbers g.numbers)
-  pub lighting : AreLighting (lighting_numbers g.numbers)
-  pub told : AreTold g.numbers.run g.outcome.recent
-  pub places : ArePlaces (length g.outcome.vertices) g.outcome.recent
-  pub results : AreTestResults (test_results g.outcome)
-  pub vertex_count : length g.outcome.vertices ≤ most_vertices
-  pub polygon_count : length g.outcome.polygons ≤ most_polygons
-  pub vertices : AllByRecursion IsVertex g.outcome.vertices
-  pub polygons : AllByRecursion IsPolygon g.outcome.polygons
-  pub last : AreSwapped g.last
-
--- At a tick the run has no more vertices than there were ticks, and the last swap was no later, nor at tick 0.
-pub record IsSavedGeometry (at : ℕ) (g : GeometryState) : Type 0 where
-  pub bounds : HasBounds g
-  pub run : g.numbers.run ≤ at
-  pub swap : g.last.tick.0 ≤ at
-  pub none : g.last.tick.0 ≡ 0 → g.last ≡ no_swap
-
--- its bytes at a tick are read as it was, and bytes that are read as an engine are its bytes
-pub record GeometryIsSaved : Type 0 where
-  pub back : (at : ℕ) (g : GeometryState) → at ≤ 2 ^ 56 → IsSavedGeometry at g → RoundTrips geometry_format at g
-  pub spelling : (at : ℕ) → OneSpelling geometry_format at

@@ -13,7 +13,8 @@ use Rattle.gx_geometry.specs.Boxes.{through, box_test}
 use Rattle.gx_geometry.specs.Coordinates.{vector_test}
 use Rattle.gx_geometry.specs.Changes.{numbers_after, gives_vertex}
 use Rattle.gx_geometry.specs.Polygons.{Arrival, arrival_of, no_place, polygon_among, most_vertices, most_polygons}
-use Rattle.gx_geometry.specs.Lists.{GeometryAct, Command, ClearError, ClearOverflow, numbers_cleared, AreLists, IsOverflow}
+use Rattle.gx_geometry.specs.ListLaws.{GeometryAct, Command, ClearError, ClearOverflow, AreLists, IsOverflow}
+use Rattle.gx_geometry.specs.Lists.{numbers_cleared}
 
 -- The geometry engine: its numbers, the results of tests, the open lists, and the lists that the last swap gave out.
 

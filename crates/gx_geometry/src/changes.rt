@@ -4,7 +4,7 @@ ghost use Rattle.std.specs.Prelude.{◌≡◌, ◌<◌, ◌≤◌, ◌^◌, leng
 ghost use Rattle.ds_base.specs.Bits.{bits, bit};
 ghost use Rattle.gx_matrix.specs.CommandTable.{HasParameters};
 ghost use Rattle.gx_geometry.specs.Coordinates.{transform_mode};
-ghost use Rattle.gx_geometry.specs.Bounds.{AreSmall};
+ghost use Rattle.gx_geometry.specs.BoundLaws.{AreSmall};
 ghost use Rattle.gx_geometry.specs.RecordsKept.{numbers_seen};
 ghost use Rattle.gx_geometry.specs.Changes.{gives_vertex, numbers_drawn, numbers_lit, numbers_after, normal_given, coordinates_given, vertex_given, diffuse_given, specular_given, light_pointed, light_coloured, run_begun};
 
@@ -13,6 +13,7 @@ use crate::lights::{lit_colour, turned};
 use crate::numbers::{
     Coordinates, Light, Numbers, high_half, kind_of, low_half, point_after, point_by_halves,
 };
+use byteorder::{ByteOrder, LittleEndian};
 use gx_matrix::GeometryCommand;
 
 fn transform_mode(texture: u32) -> u32
@@ -188,7 +189,7 @@ impl Numbers {
             GeometryCommand::SpeEmi => self.give_specular(params[0]),
             GeometryCommand::LightVector => self.point_light(params[0]),
             GeometryCommand::LightColor => self.colour_light(params[0]),
-            GeometryCommand::Shininess => self.table.copy_from_slice(params),
+            GeometryCommand::Shininess => LittleEndian::write_u32_into(params, &mut self.table),
             _ => self.change_drawn(command, params),
         }
     }

@@ -4,7 +4,7 @@ ghost use Rattle.std.specs.Prelude.{◌≡◌, ◌≤◌, ◌+◌, ◌^◌, ℕ,
 ghost use Rattle.gx_matrix.specs.CommandTable.{command_of, HasParameters, IsCommand, command_taken};
 ghost use Rattle.gx_geometry.specs.Numbers.{numbers_at_boot};
 ghost use Rattle.gx_geometry.specs.States.{GeometryState, geometry_at_boot, geometry_after, results_of, swapped, AreListsSince, IsOverflowSince, geometry_error_cleared, overflow_cleared};
-ghost use Rattle.gx_geometry.specs.Bounds.{AreSmall, AreLimited, IsGeometry};
+ghost use Rattle.gx_geometry.specs.BoundLaws.{AreSmall, AreLimited, IsGeometry};
 ghost use Rattle.gx_geometry.specs.RecordsKept.{numbers_seen};
 
 mod saved;
@@ -29,7 +29,7 @@ pub struct Geometry {
 }
 
 impl Model for Geometry {
-    ghost use Rattle.gx_geometry.specs.Bounds.{AreSmall, AreLimited, AreTold};
+    ghost use Rattle.gx_geometry.specs.BoundLaws.{AreSmall, AreLimited, AreTold};
     ghost use Rattle.gx_geometry.specs.RecordsKept.{numbers_seen};
     ghost use Rattle.gx_geometry.specs.States.{GeometryState};
 
@@ -70,7 +70,7 @@ fn numbers_at_boot() -> Numbers
             emission: 0,
             by_table: false,
         },
-        table: [0; 32],
+        table: [0; 128],
         lights: [light, light, light, light],
         kind: Kind::Triangles,
         run: 0,

@@ -2,7 +2,7 @@
 
 ghost use Rattle.std.specs.Prelude.{◌≡◌, ◌<◌, ◌≤◌, ◌*◌, ◌/◌, ◌^◌, [], ◌∷◌, ◌-ℤ◌, ◌≤ℤ◌, pos, negsuc};
 ghost use Rattle.gx_geometry.specs.RecordsKept.{light_seen, material_seen, numbers_seen};
-ghost use Rattle.gx_geometry.specs.Lights.{turned, dot, facing, half, table_byte, shine, light_levels, channel, share, added, lit_channel, lit_colour};
+ghost use Rattle.gx_geometry.specs.Lights.{turned, dot, facing, half, shine, light_levels, channel, share, added, lit_channel, lit_colour};
 
 use crate::exact::{product, sum};
 use crate::numbers::{Light, Material, Numbers, ten};
@@ -74,24 +74,14 @@ fn half_of(z: i64) -> i32
     z.div_euclid(2) as i32
 }
 
-/// The byte of a place of the shininess table.
-#[tactic(auto, unfolding(crate::specs::Lights::table_byte))]
-fn table_byte(table: &[u32; 32], i: u16) -> u16
-    requires { i < 128 }
-    ensures value { result ≡ table_byte table.now i }
-    ensures within { result ≤ 255 }
-{
-    (table[i as usize / 4] >> (8 * (i as u32 % 4)) & 0xFF) as u16
-}
-
-fn shine(material: &Material, table: &[u32; 32], e: u16) -> u16
+fn shine(material: &Material, table: &[u8; 128], e: u16) -> u16
     requires { e ≤ 511 }
     ensures value { result ≡ shine (material_seen material.now) table.now e }
     ensures within { result ≤ 510 }
 {
     let square = squared(e);
     if material.by_table {
-        2 * table_byte(table, square / 4)
+        2 * table[square as usize / 4] as u16
     } else {
         square
     }
@@ -107,7 +97,7 @@ fn squared(e: u16) -> u16
 }
 
 #[tactic(auto, using(gx_matrix::proofs::Sums::casts), unfolding(crate::specs::Lights::light_levels))]
-fn light_levels(material: &Material, table: &[u32; 32], light: Light, n: &[i32; 4]) -> Levels
+fn light_levels(material: &Material, table: &[u8; 128], light: Light, n: &[i32; 4]) -> Levels
     ensures value { result ≡ light_levels (material_seen material.now) table.now (light_seen light) n.now }
     ensures diffuse { result.diffuse ≤ 511 }
     ensures specular { result.specular ≤ 510 }

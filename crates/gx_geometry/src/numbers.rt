@@ -101,8 +101,8 @@ pub struct Numbers {
     pub viewport: u32,
     /// The material.
     pub material: Material,
-    /// The shininess table of 128 bytes, four to a word, the lowest first.
-    pub table: [u32; 32],
+    /// The shininess table.
+    pub table: [u8; 128],
     /// The lights.
     pub lights: [Light; 4],
     /// The kind of the run.

@@ -4,7 +4,7 @@ ghost use Rattle.std.specs.Prelude.{◌≡◌, ◌<◌, ◌≤◌, ◌^◌, true
 ghost use Rattle.gx_matrix.specs.CommandTable.{HasParameters};
 ghost use Rattle.gx_geometry.specs.Polygons.{arrival_of, polygon_among, most_vertices};
 ghost use Rattle.gx_geometry.specs.States.{no_outcome, four_recent, then_recent, results_of, tested, polygon_added, vertex_added, arrived, flag_cleared, lists_emptied};
-ghost use Rattle.gx_geometry.specs.Bounds.{is_shaped, AreSmall, AreLimited, ArePlaces};
+ghost use Rattle.gx_geometry.specs.BoundLaws.{is_shaped, AreSmall, AreLimited, ArePlaces};
 ghost use Rattle.gx_geometry.specs.RecordsKept.{numbers_seen};
 
 mod saved;
@@ -35,7 +35,7 @@ pub struct Outcome {
 impl Model for Outcome {
     ghost use Rattle.std.specs.Prelude.{◌≡◌, ◌≤◌, length};
     ghost use Rattle.gx_geometry.specs.Polygons.{most_vertices, most_polygons};
-    ghost use Rattle.gx_geometry.specs.Bounds.{ArePlaces, HaveColours, HavePalettes, HaveShapes};
+    ghost use Rattle.gx_geometry.specs.BoundLaws.{ArePlaces, HaveColours, HavePalettes, HaveShapes};
     ghost use Rattle.gx_geometry.specs.States.{OutcomeState};
 
     ghost Value = { OutcomeState };

@@ -3,7 +3,7 @@
 ghost use Rattle.std.specs.Prelude.{◌≡◌, ◌≤◌, ◌-◌, ◌^◌, ◌-ℤ◌, ◌+ℤ◌, ◌*ℤ◌, ◌≤ℤ◌, pos, negsuc, true, length, slice_index, slice_index_or, IfSome};
 ghost use Rattle.ds_base.specs.Bits.{bit};
 ghost use Rattle.gx_geometry.specs.Polygons.{vertex_of, arrival_of, minor, times_minor, determinant, is_kept, no_vertex, polygon_among};
-ghost use Rattle.gx_geometry.specs.Bounds.{is_shaped};
+ghost use Rattle.gx_geometry.specs.BoundLaws.{is_shaped};
 ghost use Rattle.gx_geometry.specs.RecordsKept.{numbers_seen};
 ghost use Rattle.gx_geometry.specs.Backs.{shape_of, corners_back, index_back, reaches_back, seen_back, indices_back, polygon_back, polygon_by_shape};
 

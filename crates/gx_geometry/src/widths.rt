@@ -3,10 +3,11 @@
 ghost use Rattle.std.specs.Prelude.{◌≡◌, ◌<◌, ◌≤◌, ◌^◌, ℕ, FitsSigned, pos, length, map, slice_index, slice_index_or};
 ghost use Rattle.std.specs.Int.{w16, w32};
 ghost use Rattle.std.specs.List.{AllByRecursion};
-ghost use Rattle.gx_geometry.specs.Bounds.{AreSmall, HaveColours, HavePalettes, HaveShapes};
+ghost use Rattle.gx_geometry.specs.BoundLaws.{AreSmall, HaveColours, HavePalettes, HaveShapes};
 ghost use Rattle.gx_geometry.specs.Numbers.{no_light};
 ghost use Rattle.gx_geometry.specs.RecordsKept.{light_seen, numbers_seen};
-ghost use Rattle.gx_geometry.specs.Saved.{AreCurrent, AreLighting, AreTestResults, IsLight, IsPolygon, IsVertex, current_numbers, lighting_numbers};
+ghost use Rattle.gx_geometry.specs.SavedLaws.{AreCurrent, AreLighting, AreTestResults, IsLight, IsPolygon, IsVertex};
+ghost use Rattle.gx_geometry.specs.Saved.{current_numbers, lighting_numbers};
 ghost use Rattle.gx_geometry.specs.SavedKept.{FitsLight, FitsPolygon, FitsVertex, results_seen};
 
 use crate::numbers::{Coordinates, Light, Numbers, Point};
@@ -75,16 +76,6 @@ pub fn are_polygons(polygons: &[Polygon])
 {
     for polygon in polygons {
         is_polygon(polygon);
-    }
-}
-
-/// Of words.
-#[tactic(auto, using(crate::proofs::Walks::all_words))]
-fn are_words(words: &[u32])
-    ensures { AllByRecursion (λ w. w < 2 ^ 32) words.now }
-{
-    for word in words {
-        is_unsigned_word(*word);
     }
 }
 
@@ -166,6 +157,5 @@ pub fn are_lighting(s: &Numbers)
     requires { AreSmall (numbers_seen s.now) }
     ensures { AreLighting (lighting_numbers (numbers_seen s.now)) }
 {
-    are_words(&s.table);
     are_lights(&s.lights);
 }

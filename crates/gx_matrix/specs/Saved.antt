@@ -1,7 +1,7 @@
 use Rattle.std.specs.Prelude.{ℕ, FitsSigned, ◌≡◌, ◌<◌, ◌≤◌, pos, slice_index_or, Bool, true, false, List, [], ◌∷◌, length, map}
 use Rattle.std.specs.Int.{w32}
 use Rattle.ds_state.specs.Formats.{Format, number_code, flag_code, done, ◌>>=◌, one_field, its, each, any, at_most, signed_format}
-use Rattle.ds_state.specs.Laws.{OneSpelling, RoundTrips}
+use Rattle.ds_state.specs.FormatLaws.{OneSpelling, RoundTrips}
 use Rattle.line_lanes.specs.declared.matrices.Matrix.{Matrix}
 use Rattle.gx_matrix.specs.Commands.{StacksState, zero_pose, mode_of}
 use Rattle.gx_matrix.specs.declared.currents.Mode.{Mode}

@@ -13,5 +13,5 @@ mod notes;
 mod statuses;
 
 pub use loads::{load, load_cart, load_run, load_saved};
-pub use notes::note;
+pub use notes::{name_of_kind, note};
 pub use statuses::{Ended, Status, number};

@@ -26,8 +26,8 @@ fn name_of_field(field: HeaderField) -> &'static str
     }
 }
 
-/// A kind's name.
-fn name_of_kind(kind: LeftKind) -> &'static str
+/// The name of a kind of what is left out.
+pub fn name_of_kind(kind: LeftKind) -> &'static str
     ensures { result.now ≡ kind_word kind }
 {
     match kind {

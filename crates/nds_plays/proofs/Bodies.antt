@@ -1,13 +1,11 @@
-use Rattle.std.proofs.Common.{ℕ, zero, suc, ◌≡◌, ◌+◌, ◌*◌, List, [], ◌∷◌, ◌++◌, length, map, flat_map, replicate, refl, sym, ◌∙◌, ap, arith, append_assoc, append-nil, length-append}
+use Rattle.nds_plays.proofs.Words.{ℕ, zero, suc, ◌≡◌, ◌+◌, ◌*◌, List, [], ◌∷◌, ◌++◌, length, map, flat_map, refl, sym, ◌∙◌, ap, arith, append_assoc}
+use Rattle.nds_plays.proofs.Words.{append-nil, range_with_len, flat_map-append, map-range_with_len_more, little_bytes, Nine, Seven, IsAccepted, drawn}
+use Rattle.nds_plays.proofs.Words.{body}
+use Rattle.std.proofs.Common.{replicate, length-append}
 use Rattle.std.specs.Fn.{iterate}
-use Rattle.std.specs.List.{range_with_len}
-use Rattle.std.proofs.lemmas.List.Concat.{flat_map-append}
-use Rattle.std.proofs.lemmas.List.FromFn.{map-range_with_len_more, length-map-range_with_len}
-use Rattle.byteorder.specs.Endian.{little_bytes}
-use Rattle.ds_base.specs.declared.processors.Proc.TheVariants.{Nine, Seven}
+use Rattle.std.proofs.lemmas.List.FromFn.{length-map-range_with_len}
 use Rattle.ds_header.specs.Fields.{field_number, unit_code_of, image_offset, image_entry, image_place, image_length}
-use Rattle.ds_header.specs.Rules.{IsAccepted}
-use Rattle.nds_plays.specs.Demos.{draw, drawn, body_word, body, demo_fields, nine_start, seven_start, demo_words, demo_file}
+use Rattle.nds_plays.specs.Demos.{draw, body_word, demo_fields, nine_start, seven_start, demo_words, demo_file}
 
 -- ---- bodies
 

@@ -1,19 +1,13 @@
-use Rattle.std.proofs.Common.{ℕ, ◌≡◌, List, [], ◌∷◌, ◌++◌, Option, Some, refl, sym, ◌∙◌, ap, subst, append_assoc}
-use Rattle.std.specs.List.{last_or}
-use Rattle.ds_base.specs.declared.left_out.LeftOut.{LeftOut}
+use Rattle.nds_plays.proofs.Words.{ℕ, ◌≡◌, List, [], ◌∷◌, ◌++◌, Option, Some, refl, sym, ◌∙◌, ap, subst, append_assoc, last_or, LeftOut, At, Ending}
+use Rattle.nds_plays.proofs.Words.{Runs, over, stops, more, Swapped, FollowFrames, FollowLists, WholeFrame, frame_shown, frames_shown, last_frame}
+use Rattle.nds_plays.proofs.Words.{last_lists, lists_shown, Shown, reference, HasSoundParts, MachineState, Keep, All, Last, Nothing, Latest}
+use Rattle.nds_plays.proofs.Words.{kept_records, last_records, latest_after, latest_of, output_of, shown_while}
 use Rattle.ds_runs.specs.Laws.{RunsAreOne, RunsExist, RunsJoin}
-use Rattle.ds_runs.specs.Runs.{At, Ending, Runs, over, stops, more}
 use Rattle.ds_runs.specs.Runs as runs
-use Rattle.gx_geometry.specs.States.{Swapped}
-use Rattle.ds_machine.specs.Frames.{FollowFrames, FollowLists, StepsFollowFrames, StepsFollowLists, WholeFrame, frame_shown, frames_shown, last_frame, last_lists, lists_shown}
-use Rattle.ds_machine.specs.Reference.{Shown, reference}
-use Rattle.ds_machine.specs.Sound.{HasSoundParts}
-use Rattle.ds_machine.specs.States.{MachineState}
+use Rattle.ds_machine.specs.FrameLaws.{StepsFollowFrames, StepsFollowLists}
 use Rattle.ds_machine.proofs.MachineSchedule.{sound_made}
-use Rattle.nds_words.specs.declared.commands.Keep.{Keep}
-use Rattle.nds_words.specs.declared.commands.Keep.TheVariants.{All, Last, Nothing}
 use Rattle.nds_plays.specs.Cuts.{RunsAreCut}
-use Rattle.nds_plays.specs.Records.{Latest, kept_records, last_records, latest_after, latest_of, latest_records, output_of, shown_while}
+use Rattle.nds_plays.specs.Records.{latest_records}
 use Rattle.nds_plays.proofs.Playing.{latest_follows, shown_join, then_lists}
 
 -- A run that is cut in two.

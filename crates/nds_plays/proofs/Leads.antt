@@ -1,30 +1,25 @@
-use Rattle.std.proofs.Common.{ℕ, ◌≡◌, ◌≤◌, ◌<◌, ◌+◌, ◌*◌, inl, inr, nat_eq, nat_lt, if◌then◌else◌, Bool, true, false, List, [], ◌∷◌, ◌++◌, Option, Some, option_to_list, refl, sym, ◌∙◌, ap, subst, arith, append_assoc}
-use Rattle.ds_base.specs.declared.left_out.LeftOut.{LeftOut}
-use Rattle.ds_base.specs.declared.processors.Proc.{Proc}
-use Rattle.ds_base.specs.declared.processors.Proc.TheVariants.{Nine, Seven}
-use Rattle.ds_base.specs.declared.ticks.Tick.{Tick}
+use Rattle.nds_plays.proofs.Words.{ℕ, ◌≡◌, ◌≤◌, ◌<◌, ◌+◌, ◌*◌, inl, inr, if◌then◌else◌, Bool, true, false, List, [], ◌∷◌, ◌++◌, Option, Some, refl}
+use Rattle.nds_plays.proofs.Words.{sym, ◌∙◌, ap, subst, arith, append_assoc, LeftOut, Proc, Nine, Seven, Tick, Ending, IsOver, Makes, Runs, Stopped}
+use Rattle.nds_plays.proofs.Words.{Stops, more, over, stops, least_unique, not_both, same_makes, Shown, dues_of, reference, IsSound, MachineState}
+use Rattle.nds_plays.proofs.Words.{IsTickBefore, step_lines, run_lines}
+use Rattle.std.proofs.Common.{nat_eq, nat_lt, option_to_list}
 use Rattle.ds_runs.specs.Actors.{actor_of}
-use Rattle.ds_runs.specs.Runs.{Ending, IsLeast, IsOver, Makes, Runs, Stopped, Stops, due_at, more, over, stops}
-use Rattle.ds_runs.proofs.Lists.{least_unique}
-use Rattle.ds_runs.proofs.RunLaws.{not_both, same_makes}
+use Rattle.ds_runs.specs.Runs.{IsLeast, due_at}
 use Rattle.ds_machine.specs.Acting.{acting_dues}
 use Rattle.ds_machine.specs.Lagging.{CatchesUp, CatchesUpIf, ComesBeforeAll, TakesGeometry, observes_by}
 use Rattle.ds_machine.specs.Lagging as lagging
 use Rattle.ds_machine.specs.Inspections.{seen_of}
 use Rattle.ds_machine.specs.Private.{rank_of}
-use Rattle.ds_machine.specs.Reference.{Shown, dues_of, processor_due, reference, reference_step}
-use Rattle.ds_machine.specs.Sound.{IsSound}
-use Rattle.ds_machine.specs.States.{MachineState}
+use Rattle.ds_machine.specs.Reference.{processor_due, reference_step}
 use Rattle.ds_machine.specs.declared.answers.Seen.{Seen}
 use Rattle.ds_machine.proofs.ActingDues.{acting_low, acting_processor}
 use Rattle.ds_machine.proofs.CatchingUp.{CaughtSo, behind_steps, caught_least, caught_so, comes_first, still_before}
-use Rattle.run_ahead.specs.TickTurns.{IsTickBefore}
 use Rattle.run_ahead.specs.Turns.{StopsActing, TakesActing, TakesQuiet}
 use Rattle.ds_machine.proofs.SameTick.{CrossesGeometry, StopsAfterGeometry, WaitsForGeometry, made_then, stopped_then}
 use Rattle.run_ahead.proofs.StepTurns.{before_all}
 use Rattle.run_ahead.proofs.TickTurns.{acts_at_it}
 use Rattle.nds_plays.specs.TraceParts.{IsLineDue, TakesTick}
-use Rattle.nds_plays.specs.Watches.{step_lines, run_lines, seen_line}
+use Rattle.nds_plays.specs.Watches.{seen_line}
 use Rattle.ds_machine.proofs.SeenSame.{seen_same}
 
 -- What a turn of one tick says of the lines of a run: a run from after it goes on from before it, with the line of the turn's step first.

@@ -1,21 +1,11 @@
-use Rattle.std.specs.Prelude.{option_to_list}
-use Rattle.std.proofs.Common.{ℕ, ◌≡◌, ◌≤◌, ◌<◌, ◌+◌, ◌*◌, ◌^◌, Bool, true, false, List, [], ◌∷◌, ◌++◌, length, Option, Some, None, option_map, refl, sym, subst, arith}
-use Rattle.std.specs.List.{concat}
-use Rattle.std.proofs.lemmas.List.{length-append}
-use Rattle.ds_base.specs.declared.left_out.LeftOut.{LeftOut}
-use Rattle.ds_base.specs.declared.memories.Memory.{Memory}
-use Rattle.ds_base.specs.declared.memories.Memory.TheVariants.{Main, Shared, Own7, Itcm, Dtcm, Palette, Vram, Oam}
-use Rattle.ds_base.specs.declared.processors.Proc.TheVariants.{Nine, Seven}
-use Rattle.ds_base.specs.declared.ticks.Tick.{Tick}
-use Rattle.ds_machine.specs.Frames.{WholeFrame, framed_of, last_frame}
-use Rattle.ds_machine.specs.Inspections.{memory_of, registers_of}
-use Rattle.ds_machine.specs.States.{MachineState}
-use Rattle.ds_runs.specs.Runs.{At, Stopped}
-use Rattle.gx_geometry.specs.States.{Swapped}
-use Rattle.nds_records.specs.Lists.{lists_record, lists_records}
-use Rattle.nds_records.specs.Numbers.{halves, longs, words}
-use Rattle.nds_plays.specs.Inside.{ending}
-use Rattle.nds_plays.specs.Records.{frame_record, frame_records, last_records, stop_record, swapped_lists}
+use Rattle.nds_plays.proofs.Words.{option_to_list, ℕ, ◌≡◌, ◌≤◌, ◌<◌, ◌+◌, ◌*◌, ◌^◌, Bool, true, false, List, [], ◌∷◌, ◌++◌, length, Option, Some}
+use Rattle.nds_plays.proofs.Words.{None, refl, sym, subst, arith, concat, length-append, LeftOut, Tick, WholeFrame, last_frame, MachineState, Stopped}
+use Rattle.nds_plays.proofs.Words.{Swapped, lists_records, halves, longs, ending, frame_records, last_records, swapped_lists}
+use Rattle.std.proofs.Common.{option_map}
+use Rattle.ds_machine.specs.Frames.{framed_of}
+use Rattle.nds_records.specs.Lists.{lists_record}
+use Rattle.nds_records.specs.Numbers.{words}
+use Rattle.nds_plays.specs.Records.{frame_record, stop_record}
 
 -- How long the records are.
 
@@ -29,10 +19,6 @@ halves_long (x ∷ xs) = let rest = halves_long xs in omega (arith, rest)
 long_bytes : (tick : ℕ) → length (longs (tick ∷ [])) ≡ 8
 unfolding longs
 long_bytes tick = refl
-
-five_long : (a b c d e : ℕ) → length (longs (a ∷ b ∷ c ∷ d ∷ e ∷ [])) ≡ 40
-unfolding longs
-five_long a b c d e = refl
 
 one_more : (x : ℕ) (xs : List ℕ) (n : ℕ) → length xs ≤ n → length (x ∷ xs) ≤ 1 + n
 one_more x xs n h = omega (arith, h)
@@ -85,36 +71,6 @@ pub ending_few : (stop : Option LeftOut) (left : LeftOut) (until turns : ℕ) (m
     → length (last_records until turns (ending stop m)) + 383006 ≤ 40000000
 ending_few stop left until turns m e =
     subst (λ (o : Option LeftOut). length (last_records until turns (ending o m)) + 383006 ≤ 40000000) (sym e) (stopped_few until turns left)
-
-lent : (xs ys : List ℕ) → xs ≡ ys → length xs ≤ 4194304 → length ys ≤ 4194304
-lent xs ys e h = subst (λ (x : List ℕ). length x ≤ 4194304) e h
-
--- as they are lent
-pub each_lent : (s : MachineState) (lent_by : Memory → List ℕ) → ((memory : Memory) → (lent_by memory ≡ memory_of s memory) × (length (lent_by memory) ≤ 4194304))
-    → (memory : Memory) → length (memory_of s memory) ≤ 4194304
-each_lent s lent_by h memory = lent (lent_by memory) (memory_of s memory) (h memory).0 (h memory).1
-
-pub last_few : (s : MachineState) (until turns : ℕ) → ((memory : Memory) → length (memory_of s memory) ≤ 4194304)
-    → length (words (registers_of s Nine)) ≡ 148 → length (words (registers_of s Seven)) ≡ 148 → length (last_records until turns (At s)) + 383006 ≤ 40000000
-last_few s until turns each long9 long7 =
-    let numbers : List ℕ = longs (until ∷ s.nine.processor.steps ∷ s.seven.processor.steps ∷ s.events ∷ turns ∷ []) in
-    let nine : List ℕ = words (registers_of s Nine) in
-    let seven : List ℕ = words (registers_of s Seven) in
-    let the_end : List ℕ = 69 ∷ (numbers ++ []) in
-    let end : length the_end ≤ 41 =
-    one_more 69 (numbers ++ []) 40 (two numbers [] 40 0 (as_most (length numbers) 40 (five_long until s.nine.processor.steps s.seven.processor.steps s.events turns)) (omega arith)) in
-    let registers : length (nine ++ (seven ++ the_end)) ≤ 337 =
-    two nine (seven ++ the_end) 148 189 (as_most (length nine) 148 long9) (two seven the_end 148 41 (as_most (length seven) 148 long7) end) in
-    let oam = two s.oam (nine ++ (seven ++ the_end)) 4194304 337 (each Oam) registers in
-    let vram = two s.io.vram.bytes _ 4194304 _ (each Vram) oam in
-    let palette = two s.palette _ 4194304 _ (each Palette) vram in
-    let dtcm = two s.nine.dtcm _ 4194304 _ (each Dtcm) palette in
-    let itcm = two s.nine.itcm _ 4194304 _ (each Itcm) dtcm in
-    let own7 = two s.seven.wram _ 4194304 _ (each Own7) itcm in
-    let shared = two s.shared _ 4194304 _ (each Shared) own7 in
-    let main = two s.main _ 4194304 _ (each Main) shared in
-    let all : length (last_records until turns (At s)) ≤ 33554770 = one_more 77 _ 33554769 main in
-    omega (arith, all)
 
 -- ---- all of it
 

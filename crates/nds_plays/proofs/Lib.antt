@@ -1,3 +1,4 @@
+mod Words
 pub mod Framing
 pub mod Lengths
 pub mod Playing

@@ -1,10 +1,6 @@
-use Rattle.std.proofs.Common.{ℕ, ◌≡◌, List, ◌++◌, refl, sym, ◌∙◌, ap, subst, arith}
-use Rattle.ds_base.specs.declared.ticks.Tick.{Tick}
-use Rattle.ds_runs.specs.Runs.{Ending, Makes, Runs, Stops, TickMachine, more, over, stops}
-use Rattle.ds_runs.proofs.Lists.{least_unique}
-use Rattle.ds_runs.proofs.RunLaws.{not_both, same_makes}
-use Rattle.ds_machine.specs.Reference.{reference}
-use Rattle.nds_plays.specs.Watches.{LinesAreOne, step_lines, told_of}
+use Rattle.nds_plays.proofs.Words.{ℕ, ◌≡◌, List, ◌++◌, refl, sym, ◌∙◌, ap, subst, arith, Tick, Ending, Makes, Runs, Stops, TickMachine, more, over}
+use Rattle.nds_plays.proofs.Words.{stops, least_unique, not_both, same_makes, reference, step_lines}
+use Rattle.nds_plays.specs.Watches.{LinesAreOne, told_of}
 
 -- What is told of a run's steps is one list.
 

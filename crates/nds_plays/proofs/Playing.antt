@@ -1,34 +1,26 @@
-use Rattle.std.proofs.Common.{ℕ, ◌≡◌, ◌≤◌, ◌<◌, ◌*◌, ◌^◌, length, Bool, true, false, true≢false, Result, Ok, Err, is_err, if◌then◌else◌, List, [], ◌∷◌, ◌++◌, flat_map, Option, Some, None, max, refl, sym, ◌∙◌, ap, subst, append_assoc, append-nil, arith}
-use Rattle.std.specs.List.{last_or}
+use Rattle.nds_plays.proofs.Words.{ℕ, ◌≡◌, ◌≤◌, ◌<◌, ◌*◌, ◌^◌, length, Bool, true, false, if◌then◌else◌, List, [], ◌∷◌, ◌++◌, flat_map, Option, Some}
+use Rattle.nds_plays.proofs.Words.{None, max, refl, sym, ◌∙◌, ap, subst, append_assoc, append-nil, arith, last_or, Puts, option_to_list}
+use Rattle.nds_plays.proofs.Words.{length-append, flat_map-append, LeftOut, Appended, AppendedFront, append_twice, front_after, front_of_more, At}
+use Rattle.nds_plays.proofs.Words.{Ending, Runs, FollowFrames, FollowLists, WholeFrame, frame_shown, frames_shown, last_frame, last_lists}
+use Rattle.nds_plays.proofs.Words.{lists_shown, MachineState, HasSoundParts, IsSound, Shown, reference, ConsoleState, Swapped, lists_records, ending}
+use Rattle.nds_plays.proofs.Words.{shown_after, Wrote, Latest, frame_records, kept_records, last_records, latest_after, latest_of, output_of}
+use Rattle.nds_plays.proofs.Words.{shown_while, swapped_lists, Keep, All, Last, Nothing}
+use Rattle.std.proofs.Common.{true≢false, Result, Ok, Err, is_err}
 use Rattle.std.specs.Result.{OnOk}
-use Rattle.ds_io.specs.Puts.{Puts}
-use Rattle.std.specs.Prelude.{option_to_list}
-use Rattle.std.proofs.lemmas.List.{length-append}
-use Rattle.std.proofs.lemmas.List.Concat.{flat_map-append}
-use Rattle.ds_base.specs.declared.left_out.LeftOut.{LeftOut}
-use Rattle.ds_io.specs.Sinks.{Appended, AppendedFront}
-use Rattle.ds_io.proofs.SinkLemmas.{append_twice, front_after, front_of_more}
-use Rattle.ds_runs.specs.Runs.{At, Ending, Runs}
-use Rattle.ds_machine.specs.Frames.{FollowFrames, FollowLists, FramesAreFew, WholeFrame, frame_shown, frames_shown, last_frame, last_lists, lists_shown}
-use Rattle.ds_machine.specs.States.{MachineState}
-use Rattle.ds_machine.specs.Sound.{HasSoundParts, IsSound}
-use Rattle.ds_machine.specs.Reference.{Shown, next_shown, reference}
-use Rattle.run_ahead.specs.Consoles.{ConsoleState}
+use Rattle.ds_machine.specs.FrameLaws.{FramesAreFew}
+use Rattle.ds_machine.specs.Reference.{next_shown}
 use Rattle.run_ahead.specs.ToEnd.{TurnsToEnd, at_end, counts, meets_stop}
-use Rattle.run_ahead.specs.Turns.{GoesOn, RanOn, TurnsUpTo, HasTurned, no_turn, one_turn}
+use Rattle.run_ahead.specs.TurnLaws.{GoesOn, RanOn, TurnsUpTo}
+use Rattle.run_ahead.specs.Turns.{HasTurned, no_turn, one_turn}
 use Rattle.run_ahead.specs.declared.turns.Turned.{Turned}
 use Rattle.run_ahead.specs.declared.turns.Turned.TheVariants as answers
 use Rattle.run_ahead.proofs.RunningOn.{raised_again, turned_twice}
 use Rattle.run_ahead.proofs.TurnExists.{turns_end}
 use Rattle.run_ahead.proofs.TurnRuns.{ran_to_end, turns_end_as_runs}
-use Rattle.gx_geometry.specs.States.{Swapped}
-use Rattle.nds_records.specs.Lists.{lists_records}
-use Rattle.nds_plays.specs.Inside.{ending, RunsTo, most_after, most_shown, shown_after, shown_now}
-use Rattle.nds_plays.specs.Plays.{Wrote, WroteFront}
-use Rattle.nds_plays.specs.Records.{Latest, frame_records, kept_records, last_records, latest_after, latest_of, output_of, shown_records, shown_while, swapped_lists}
+use Rattle.nds_plays.specs.Inside.{RunsTo, most_after, most_shown, shown_now}
+use Rattle.nds_plays.specs.Plays.{WroteFront}
+use Rattle.nds_plays.specs.Records.{shown_records}
 use Rattle.nds_plays.proofs.Lengths.{all_short}
-use Rattle.nds_words.specs.declared.commands.Keep.{Keep}
-use Rattle.nds_words.specs.declared.commands.Keep.TheVariants.{All, Last, Nothing}
 
 -- ---- frames and lists, one after another
 
@@ -230,7 +222,7 @@ module _ {S : Type 0} (tells : S → Bool) (taken : S → List ℕ → Type 0) (
 
   -- where the sink fails at a frame or its lists, a front of the run's output is written: its turns go on to their end from here, though the console takes none of them
   pub front_at : (old now : ConsoleState) (mid after : S) (swapped : Bool) → Writing old mid → TurnsUpTo until old (answers.Frame swapped) now → (now.stopped ≡ None → IsSound now.machine)
-      → AppendedFront tells taken mid after (shown_now keep swapped now.machine) → WroteFront tells taken until keep start before after × HasTurned until start now
+      → AppendedFront tells taken mid after (shown_now keep swapped now.machine) → WroteFront (AppendedFront tells taken before after) until keep start × HasTurned until start now
   front_at old now mid after swapped w up sound put =
       let shown = shown_by up in
       let going = going_shown until start old now w.outs swapped up w.going in
@@ -251,7 +243,7 @@ module _ {S : Type 0} (tells : S → Bool) (taken : S → List ℕ → Type 0) (
       (ap (λ (x : List ℕ). x ++ last_records until last.turns end) (sym (goes_further keep latest outs more)))
       (subst P (sym (append_assoc (shown_while keep outs) (rest_of keep latest outs more) (last_records until last.turns end)))
       (front_of_more tells taken before after (shown_while keep outs) (rest_of keep latest outs more ++ last_records until last.turns end) front)) in
-      (record { end = end; last = last; turns = going.ends end last rest.2; outs = outs ++ more; ran = going.on until (omega arith) end more run.1; written = written }, going.turned)
+      ((end, last, record { turns = going.ends end last rest.2; outs = outs ++ more; ran = going.on until (omega arith) end more run.1; written = written }), going.turned)
 
   -- the turns up to the one that ends the run
   abbrev HasRunTo : Option LeftOut → ConsoleState → S → Type 0
@@ -297,32 +289,39 @@ module _ {S : Type 0} (tells : S → Bool) (taken : S → List ℕ → Type 0) (
   abbrev left_to_write : List ℕ
   left_to_write = shown_after keep (latest_of new.machine) ++ last_records until new.turns (ending stop new.machine)
 
-  pub all_written : until ≤ 2 ^ 56 → HasSoundParts old.machine → FramesAreFew → length (shown_while keep r.outs) ≤ most_shown * length r.outs → length left_to_write ≤ most_after
-      → Appended tells taken mid after left_to_write → Wrote tells taken until keep old (ending stop new.machine) new before after
-  all_written early sound frames each last put =
-      let P : List ℕ → Type 0 = λ x. Appended tells taken before after x in
-      record {
-        turns = r.to_end;
-        outs = r.outs;
-        ran = r.ran;
-        written = subst P (whole_output until keep old stop new r)
-            (append_twice tells taken before mid after (shown_while keep r.outs) left_to_write so_far put);
-        short = subst (λ (x : List ℕ). length x < 2 ^ 64) (whole_output until keep old stop new r)
-            (all_short until (shown_while keep r.outs) left_to_write (length r.outs) early (frames until old.machine (ending stop new.machine) r.outs sound r.ran) each last);
-      }
+  -- the whole output of a run that ends so was written, and is short
+  abbrev pub WroteShort : Ending MachineState LeftOut → Type 0
+  WroteShort end = (wrote : Wrote (Appended tells taken before after) until keep old end new)
+      × (length (output_of until new.turns keep (latest_of old.machine) end wrote.outs) < 2 ^ 64)
 
-  pub front_written : AppendedFront tells taken mid after left_to_write → WroteFront tells taken until keep old before after
+  pub all_written : until ≤ 2 ^ 56 → HasSoundParts old.machine → FramesAreFew → length (shown_while keep r.outs) ≤ most_shown * length r.outs → length left_to_write ≤ most_after
+      → Appended tells taken mid after left_to_write → WroteShort (ending stop new.machine)
+  all_written early sound frames each last put =
+      let P : List ℕ → Type 0 = λ x. Appended tells taken before after x in (
+        record {
+          turns = r.to_end;
+          outs = r.outs;
+          ran = r.ran;
+          written = subst P (whole_output until keep old stop new r)
+              (append_twice tells taken before mid after (shown_while keep r.outs) left_to_write so_far put);
+        },
+        subst (λ (x : List ℕ). length x < 2 ^ 64) (whole_output until keep old stop new r)
+            (all_short until (shown_while keep r.outs) left_to_write (length r.outs) early (frames until old.machine (ending stop new.machine) r.outs sound r.ran) each last),
+      )
+
+  pub front_written : AppendedFront tells taken mid after left_to_write → WroteFront (AppendedFront tells taken before after) until keep old
   front_written put =
-      let P : List ℕ → Type 0 = λ x. AppendedFront tells taken before after x in
-      record {
-        end = ending stop new.machine;
-        last = new;
-        turns = r.to_end;
-        outs = r.outs;
-        ran = r.ran;
-        written = subst P (whole_output until keep old stop new r)
-            (front_after tells taken before mid after (shown_while keep r.outs) left_to_write so_far put);
-      }
+      let P : List ℕ → Type 0 = λ x. AppendedFront tells taken before after x in (
+        ending stop new.machine,
+        new,
+        record {
+          turns = r.to_end;
+          outs = r.outs;
+          ran = r.ran;
+          written = subst P (whole_output until keep old stop new r)
+              (front_after tells taken before mid after (shown_while keep r.outs) left_to_write so_far put);
+        },
+      )
 
 -- ---- what a call put that didn't fail
 

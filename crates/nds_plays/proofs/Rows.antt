@@ -1,8 +1,7 @@
-use Rattle.std.proofs.Common.{ℕ, ◌≡◌, ◌+◌, ◌-◌, ◌*◌, List, [], ◌++◌, take, refl, drop, sym, ◌∙◌, ap, arith, take-append-drop}
+use Rattle.nds_plays.proofs.Words.{ℕ, ◌≡◌, ◌+◌, ◌-◌, ◌*◌, List, [], ◌++◌, take, refl, drop, sym, ◌∙◌, ap, arith, flat_map-append, little_bytes}
+use Rattle.nds_plays.proofs.Words.{halves}
+use Rattle.std.proofs.Common.{take-append-drop}
 use Rattle.std.proofs.Math.Seq.{take-add}
-use Rattle.std.proofs.lemmas.List.Concat.{flat_map-append}
-use Rattle.byteorder.specs.Endian.{little_bytes}
-use Rattle.nds_records.specs.Numbers.{halves}
 
 -- Pixels as bytes, row by row.
 

@@ -1,7 +1,5 @@
-use Rattle.std.proofs.Common.{ℕ, ◌≡◌, List, ◌∙◌, ap, subst}
+use Rattle.nds_plays.proofs.Words.{ℕ, ◌≡◌, List, ◌∙◌, ap, subst, Ending, At, IsOver, Runs, Stopped, TickMachine, over, stops, more, ConsoleState}
 use Rattle.sha2.specs.Sha256.{sha256}
-use Rattle.ds_runs.specs.Runs.{Ending, At, IsOver, Runs, Stopped, TickMachine, over, stops, more}
-use Rattle.run_ahead.specs.Consoles.{ConsoleState}
 use Rattle.run_ahead.specs.Saved.{IsReadBack, state_bytes}
 use Rattle.nds_plays.specs.States.{ComesBack}
 

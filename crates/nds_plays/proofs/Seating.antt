@@ -1,8 +1,7 @@
-use Rattle.std.proofs.Common.{ℕ, ◌≡◌, List, Option, Some, sym, ◌∙◌}
+use Rattle.nds_plays.proofs.Words.{ℕ, ◌≡◌, List, Option, Some, sym, ◌∙◌, ConsoleState}
 use Rattle.std.proofs.lemmas.Option.{same_Some}
 use Rattle.ds_io.specs.Shelves.{Named}
 use Rattle.ds_machine.specs.Booted.{machine_booted}
-use Rattle.run_ahead.specs.Consoles.{ConsoleState}
 use Rattle.nds_plays.specs.Calls.{switched_on, IsSwitchedOn}
 
 -- the console of a seat in which one was switched on

@@ -1,19 +1,15 @@
-use Rattle.std.proofs.Common.{ℕ, zero, suc, ◌≡◌, ◌≤◌, ◌<◌, ◌+◌, ◌*◌, max, inl, inr, Bool, List, [], ◌++◌, length, take, Option, Some, None, option_to_list, ◌-◌, refl, sym, ◌∙◌, ap, subst, arith, append-nil, length-append}
-use Rattle.std.specs.List.{concat}
+use Rattle.nds_plays.proofs.Words.{ℕ, zero, suc, ◌≡◌, ◌≤◌, ◌<◌, ◌+◌, ◌*◌, max, inl, inr, Bool, List, [], ◌++◌, length, take, Option, Some, None, ◌-◌}
+use Rattle.nds_plays.proofs.Words.{refl, sym, ◌∙◌, ap, subst, arith, append-nil, concat, LeftOut, Proc, Appended, AppendedFront, append_twice}
+use Rattle.nds_plays.proofs.Words.{front_after, front_of_more, Ending, Runs, IsOver, At, Stopped, over, Shown, reference, dues_of, MachineState}
+use Rattle.nds_plays.proofs.Words.{ConsoleState, run_lines}
+use Rattle.std.proofs.Common.{option_to_list, length-append}
 use Rattle.std.proofs.Math.Seq.{take-append-add}
 use Rattle.std.proofs.Math.Nat.{le-max_left}
 use Rattle.std.proofs.lemmas.List.Folds.{concat-append}
-use Rattle.ds_base.specs.declared.left_out.LeftOut.{LeftOut}
-use Rattle.ds_base.specs.declared.processors.Proc.{Proc}
 use Rattle.ds_io.specs.Faults.{Rose}
-use Rattle.ds_io.specs.Sinks.{Appended, AppendedFront}
-use Rattle.ds_io.proofs.SinkLemmas.{append_twice, front_after, front_of_more}
-use Rattle.ds_runs.specs.Runs.{Ending, Runs, IsOver, At, Stopped, over}
-use Rattle.ds_machine.specs.Reference.{Shown, reference, dues_of}
-use Rattle.ds_machine.specs.States.{MachineState}
-use Rattle.run_ahead.specs.Consoles.{ConsoleState}
-use Rattle.run_ahead.specs.Turns.{HasRuns, one_more_turn, run_to}
-use Rattle.nds_plays.specs.Watches.{run_lines, trace_of, Traces}
+use Rattle.run_ahead.specs.TurnLaws.{HasRuns}
+use Rattle.run_ahead.specs.Turns.{one_more_turn, run_to}
+use Rattle.nds_plays.specs.Watches.{trace_of, Traces}
 use Rattle.nds_plays.proofs.Leads.{GoesOnFrom, Leads, StopsFrom, leads_none, leads_twice}
 use Rattle.nds_plays.specs.declared.plays.Played.TheVariants as answers
 
@@ -113,7 +109,7 @@ module _ {S : Type 0} (tells : S → Bool) (taken : S → List ℕ → Type 0) (
   tracing_over now after left w none_due =
       let run : Runs reference until (At now) now [] = over now none_due in
       let on = w.on (At now) [] run in
-      (At now, on.all, on.whole, inr tt, ended now after left w (At now) [] run on refl)
+      (At now, on.all, on.whole, inr (now, refl), ended now after left w (At now) [] run on refl)
 
   pub tracing_stopped : (now : MachineState) (after : S) (left : ℕ) (w : Tracing now after left) (stop : LeftOut) → StopsFrom until proc now stop → 0 < left
       → Traces tells taken faults until proc count start before (answers.LeftOut stop) after
@@ -122,7 +118,7 @@ module _ {S : Type 0} (tells : S → Bool) (taken : S → List ℕ → Type 0) (
       let long : length (run_lines proc on.whole) ≡ length w.told + 0 =
       ap length on.lines ∙ length-append w.told (run_lines proc k.whole) ∙ ap (λ (x : List (List ℕ)). length w.told + length x) k.lines in
       let counted = w.counted in
-      (on.all, on.whole, omega (arith, long, counted, some), ended now after left w (Stopped stop) k.all k.whole on k.lines)
+      (Stopped stop, on.all, on.whole, (refl, omega (arith, long, counted, some)), ended now after left w (Stopped stop) k.all k.whole on k.lines)
 
   -- a call of the sink failed
   pub tracing_failed : (now : MachineState) (after : S) (left : ℕ) (w : Tracing now after left) (next : MachineState) (line : Option (List ℕ)) → Leads until proc now (option_to_list line) next
@@ -142,4 +138,4 @@ module _ {S : Type 0} (tells : S → Bool) (taken : S → List ℕ → Type 0) (
       trace_split told fewer rest.0 next rest.1 rest.2 on (counted_by w.told left fewer line w.counted count_down) ∙ ap (λ (x : List ℕ). x ++ more_lines) (concat-append w.told (option_to_list line)) in
       let front = front_of_more tells taken before latest (concat w.told ++ concat (option_to_list line)) more_lines
       (front_after tells taken before after latest (concat w.told) (concat (option_to_list line)) w.written put) in
-      (omega (arith, first, rose), (rest.0, on.all, on.whole, subst P (sym all) front))
+      (omega (arith, first, rose), (rest.0, on.all, on.whole, tt, subst P (sym all) front))

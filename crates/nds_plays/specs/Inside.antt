@@ -1,10 +1,11 @@
 use Rattle.std.specs.Prelude.{ℕ, ◌≡◌, ◌≤◌, ◌*◌, Bool, List, [], ◌++◌, length, Option, Some, None, option_to_list, Result, Ok, Err, max}
 use Rattle.ds_base.specs.declared.left_out.LeftOut.{LeftOut}
 use Rattle.ds_io.specs.Faults.{Rose}
-use Rattle.ds_io.specs.Sinks.{Appended}
+use Rattle.ds_io.specs.Sinks.{Appended, AppendedFront}
 use Rattle.ds_io.specs.declared.faults.Failed.{Failed}
 use Rattle.ds_runs.specs.Runs.{Ending, At, Stopped, Runs}
-use Rattle.ds_machine.specs.Frames.{FollowFrames, FollowLists, last_frame}
+use Rattle.ds_machine.specs.FrameLaws.{FollowFrames, FollowLists}
+use Rattle.ds_machine.specs.Frames.{last_frame}
 use Rattle.ds_machine.specs.Reference.{Shown, reference}
 use Rattle.ds_machine.specs.States.{MachineState}
 use Rattle.run_ahead.specs.ToEnd.{TurnsToEnd}
@@ -68,4 +69,4 @@ Ran tells taken faults until keep old before (Ok stop) new after =
     (runs : RunsTo until old stop new) × Appended tells taken before after (shown_while keep runs.outs)
     × (length (shown_while keep runs.outs) ≤ most_shown * length runs.outs)
 Ran tells taken faults until keep old before (Err failed) new after =
-    WroteFront tells taken until keep old before after × Rose (faults before) (faults after) × HasTurned until old new
+    WroteFront (AppendedFront tells taken before after) until keep old × Rose (faults before) (faults after) × HasTurned until old new

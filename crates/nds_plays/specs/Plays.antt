@@ -15,35 +15,28 @@ use Rattle.nds_plays.specs.declared.plays.Played.TheVariants as answers
 
 -- What playing a console to a tick writes, and how it answers.
 
--- the whole output of the reference run from a console's machine to a tick was written: turns with that limit end so, at this console, whose count of
--- turns is the one that is written. It has fewer than 2^64 bytes
-pub record Wrote {S : Type 0} (tells : S → Bool) (taken : S → List ℕ
-    → Type 0) (until : ℕ) (keep : Keep) (start : ConsoleState) (end : Ending MachineState LeftOut) (last : ConsoleState) (old new : S)
+-- the output of the reference run from a console's machine to a tick was written: turns with that limit end so, at this console, whose count of turns
+-- is the one that is written
+pub record Wrote (wrote : List ℕ → Type 0) (until : ℕ) (keep : Keep) (start : ConsoleState) (end : Ending MachineState LeftOut) (last : ConsoleState)
     : Type 0 where
   pub turns : TurnsToEnd until start end last
   pub outs : List Shown
   pub ran : Runs reference until end start.machine outs
-  pub written : Appended tells taken old new (output_of until last.turns keep (latest_of start.machine) end outs)
-  pub short : length (output_of until last.turns keep (latest_of start.machine) end outs) < 2 ^ 64
+  pub written : wrote (output_of until last.turns keep (latest_of start.machine) end outs)
 
 -- a front of that output was written: of the one to the end of the run and of its turns, wherever the console came to
-pub record WroteFront {S : Type 0} (tells : S → Bool) (taken : S → List ℕ
-    → Type 0) (until : ℕ) (keep : Keep) (start : ConsoleState) (old new : S) : Type 0 where
-  pub end : Ending MachineState LeftOut
-  pub last : ConsoleState
-  pub turns : TurnsToEnd until start end last
-  pub outs : List Shown
-  pub ran : Runs reference until end start.machine outs
-  pub written : AppendedFront tells taken old new (output_of until last.turns keep (latest_of start.machine) end outs)
+abbrev pub WroteFront : (List ℕ → Type 0) → ℕ → Keep → ConsoleState → Type 0
+WroteFront front until keep start = (end : Ending MachineState LeftOut) × (last : ConsoleState) × Wrote front until keep start end last
 
--- by the answer: the whole output of the run, or a front of it where the sink's count of faults rose; and the console is as after
--- turns with that limit
+-- by the answer: the whole output of the run, which has fewer than 2^64 bytes, or a front of it where the sink's count of faults rose; and the
+-- console is as after turns with that limit
 abbrev pub Plays : {S : Type 0} → (S → Bool) → (S → List ℕ → Type 0) → (S → ℕ) → ℕ → Keep → ConsoleState → S → played.Played → ConsoleState → S
     → Type 0
 Plays tells taken faults until keep old before answers.Done new after =
-    Wrote tells taken until keep old (At new.machine) new before after × (new.stopped ≡ None) × (new.limit ≡ max old.limit until)
-    × HasTurned until old new
+    (wrote : Wrote (Appended tells taken before after) until keep old (At new.machine) new) × (new.stopped ≡ None)
+    × (new.limit ≡ max old.limit until) × HasTurned until old new
+    × (length (output_of until new.turns keep (latest_of old.machine) (At new.machine) wrote.outs) < 2 ^ 64)
 Plays tells taken faults until keep old before (answers.LeftOut left) new after =
-    Wrote tells taken until keep old (Stopped left) new before after × (new.stopped ≡ Some left) × HasTurned until old new
+    Wrote (Appended tells taken before after) until keep old (Stopped left) new × (new.stopped ≡ Some left) × HasTurned until old new
 Plays tells taken faults until keep old before answers.WriteFault new after =
-    WroteFront tells taken until keep old before after × Rose (faults before) (faults after) × HasTurned until old new
+    WroteFront (AppendedFront tells taken before after) until keep old × Rose (faults before) (faults after) × HasTurned until old new

@@ -5,7 +5,7 @@ use Rattle.ds_io.specs.Shelves.{Named}
 use Rattle.ds_machine.specs.Reference.{Shown}
 use Rattle.run_ahead.specs.Consoles.{ConsoleState}
 use Rattle.ds_machine.specs.Sound.{HasSoundParts}
-use Rattle.ds_machine.specs.Within.{IsWithinTick}
+use Rattle.ds_machine.specs.WithinLaws.{IsWithinTick}
 use Rattle.run_ahead.specs.Saved.{IsReadBack, read_state, state_bytes}
 use Rattle.nds_answers.specs.Loads.{AreKeys, IsCart, IsFileRead, RefusesFiles, most_state}
 use Rattle.nds_answers.specs.declared.statuses.Status.{Status}

@@ -65,35 +65,26 @@ abbrev pub trace_of : {limit : ℕ} {end : Ending MachineState LeftOut} {s : Mac
     → Runs reference limit end s outs → List ℕ
 trace_of proc count run = concat (take count (run_lines proc run))
 
--- a run comes to its limit
-abbrev pub IsAt : Ending MachineState LeftOut → Type 0
-IsAt (At s) = Unit {0}
-IsAt (Stopped left) = ⊥
+-- a trace of the reference run from a machine was written, of which this holds, by how many lines the run has and how it ends
+abbrev pub Traced : (List ℕ → Type 0) → ℕ → Proc → ℕ → MachineState → (ℕ → Ending MachineState LeftOut → Type 0) → Type 0
+Traced wrote until proc count start ends = (end : Ending MachineState LeftOut) × (outs : List Shown) × (run : Runs reference until end start outs)
+    × ends (length (run_lines proc run)) end × wrote (trace_of proc count run)
 
--- a trace of the reference run from a machine was written whole: so many lines, or those of a run that comes to its tick
-abbrev pub TracedWhole : {S : Type 0} → (S → Bool) → (S → List ℕ → Type 0) → ℕ → Proc → ℕ → MachineState → S → S → Type 0
-TracedWhole tells taken until proc count start before after =
-    (end : Ending MachineState LeftOut) × (outs : List Shown) × (run : Runs reference until end start outs)
-    × ((count ≤ length (run_lines proc run)) ⊎ IsAt end) × Appended tells taken before after (trace_of proc count run)
+-- it has so many lines, or all of a run that comes to its tick; or fewer, of one that stops
+abbrev pub IsWholeTrace : ℕ → ℕ → Ending MachineState LeftOut → Type 0
+IsWholeTrace count lines end = (count ≤ lines) ⊎ ((s : MachineState) × (end ≡ At s))
 
--- the run stops before there are so many lines, and those that it has were written
-abbrev pub TracedToStop : {S : Type 0} → (S → Bool) → (S → List ℕ → Type 0) → ℕ → Proc → ℕ → MachineState → LeftOut → S → S → Type 0
-TracedToStop tells taken until proc count start left before after = (outs : List Shown) × (run : Runs reference until (Stopped left) start outs)
-    × (length (run_lines proc run) < count) × Appended tells taken before after (trace_of proc count run)
-
--- a front of it was written
-abbrev pub TracedFront : {S : Type 0} → (S → Bool) → (S → List ℕ → Type 0) → ℕ → Proc → ℕ → MachineState → S → S → Type 0
-TracedFront tells taken until proc count start before after =
-    (end : Ending MachineState LeftOut) × (outs : List Shown) × (run : Runs reference until end start outs)
-    × AppendedFront tells taken before after (trace_of proc count run)
+abbrev pub IsCutTrace : LeftOut → ℕ → ℕ → Ending MachineState LeftOut → Type 0
+IsCutTrace left count lines end = (end ≡ Stopped left) × (lines < count)
 
 -- what a trace wrote, by its answer
 abbrev pub Traces : {S : Type 0} → (S → Bool) → (S → List ℕ → Type 0) → (S → ℕ) → ℕ → Proc → ℕ → MachineState → S → played.Played → S → Type 0
-Traces tells taken faults until proc count start before answers.Done after = TracedWhole tells taken until proc count start before after
+Traces tells taken faults until proc count start before answers.Done after =
+    Traced (Appended tells taken before after) until proc count start (IsWholeTrace count)
 Traces tells taken faults until proc count start before (answers.LeftOut left) after =
-    TracedToStop tells taken until proc count start left before after
+    Traced (Appended tells taken before after) until proc count start (IsCutTrace left count)
 Traces tells taken faults until proc count start before answers.WriteFault after =
-    Rose (faults before) (faults after) × TracedFront tells taken until proc count start before after
+    Rose (faults before) (faults after) × Traced (AppendedFront tells taken before after) until proc count start (λ lines end. Unit {0})
 
 -- ---- what is written after a run
 

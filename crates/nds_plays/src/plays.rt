@@ -7,7 +7,7 @@ ghost use Rattle.ds_io.specs.Puts.{Puts};
 ghost use Rattle.nds_plays.specs.Records.{last_records, latest_of};
 
 use crate::records::{put_last, put_latest, put_now, put_stop};
-use ds_base::{LeftOut, Tick};
+use ds_base::{LeftOut, Tick, known};
 use ds_io::{Failed, Sink};
 use ds_machine::frame_laws;
 use nds_words::Keep;
@@ -34,8 +34,8 @@ pub fn play<O: Sink>(console: &mut Console, until: Tick, keep: Keep, out: &mut O
     ensures played { Plays O.tells O.taken O.faults until.0 keep console.old out.old result console.new out.new }
     ensures later { O.faults out.old ≤ O.faults out.new }
 {
-    console.laws();
-    frame_laws();
+    known!(console.laws());
+    known!(frame_laws());
     let Ok(stop) = run_to(console, until, keep, out) else {
         return Played::WriteFault;
     };
@@ -64,7 +64,7 @@ fn run_to<O: Sink>(
     'turns: loop {
         match console.run_on(until) {
             Turned::Frame { swapped } => {
-                console.laws();
+                known!(console.laws());
                 put_shown(out, keep, swapped, console)?;
             }
             Turned::Stopped(left) => return Ok(Some(left)),

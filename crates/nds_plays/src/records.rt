@@ -10,7 +10,7 @@ ghost use Rattle.nds_records.specs.Lists.{lists_records};
 ghost use Rattle.nds_plays.specs.Inside.{most_after, most_shown, records_now};
 ghost use Rattle.nds_plays.specs.Records.{frame_record, frame_records, latest_of, latest_records, last_records, stop_record, swapped_lists, kind_number};
 
-use ds_base::{LeftKind, LeftOut, Memory, Proc, Tick};
+use ds_base::{LeftKind, LeftOut, Memory, Proc, Tick, known};
 use ds_io::{Failed, Sink, put_all, put_parts};
 use nds_records::{five_longs, long_bytes, put_lists, register_bytes, row_bytes, word_bytes};
 use run_ahead::Console;
@@ -52,7 +52,7 @@ fn put_last_lists<O: Sink>(out: &mut O, console: &Console) -> Result<(), Failed>
     ensures put { Puts O.tells O.taken O.faults (lists_records (option_to_list (last_lists console.now.machine))) result out.old out.new }
     ensures few { OnOk result (length (lists_records (option_to_list (last_lists console.now.machine))) ≤ 186389) }
 {
-    console.laws();
+    known!(console.laws());
     let lists = console.lists();
     if lists.tick().0 == 0 {
         return Ok(());
@@ -78,7 +78,7 @@ fn put_swapped<O: Sink>(out: &mut O, swapped: bool, console: &Console) -> Result
     if !swapped {
         return Ok(());
     }
-    console.laws();
+    known!(console.laws());
     put_lists(out, console.lists())
 }
 

@@ -6,7 +6,7 @@ ghost use Rattle.nds_plays.specs.Watches.{WritesAfter};
 
 use crate::plays::Played;
 use crate::throughs::run_through;
-use ds_base::Tick;
+use ds_base::{Tick, known};
 use ds_io::{Sink, put_all};
 use ds_machine::time_laws;
 use run_ahead::Console;
@@ -28,7 +28,7 @@ pub fn save<O: Sink>(
     ensures back { IfOk result (λ played. SavesWhole console.old played console.new) }
     ensures err { OnErr result (out.new ≡ out.old) }
 {
-    time_laws();
+    known!(time_laws());
     if let Some(left) = run_through(console, until) {
         return Ok(Played::LeftOut(left));
     }

@@ -11,7 +11,7 @@ ghost use Rattle.nds_plays.specs.Watches.{Traces, seen_line};
 
 use crate::plays::Played;
 use asm_text::Set;
-use ds_base::{LeftOut, Proc, Tick};
+use ds_base::{LeftOut, Proc, Tick, known};
 use ds_io::{Failed, Sink, put_all};
 use ds_machine::rank_of;
 use nds_records::{OutLine, entry_line, step_line};
@@ -59,7 +59,7 @@ fn take(console: &mut Console, limit: Tick) -> Taken
     requires open { console.old.stopped ≡ None }
     ensures { Took limit.0 console.old result console.new }
 {
-    tick_turn_laws();
+    known!(tick_turn_laws());
     match console.turn(limit) {
         Turned::Ran => Taken::Step,
         Turned::Frame { swapped: _ } => Taken::Step,
@@ -102,9 +102,9 @@ pub fn trace<O: Sink>(
 {
     let mut left = count;
     'turns: loop {
-        console.laws();
+        known!(console.laws());
         if left == 0 {
-            console.has_runs();
+            known!(console.has_runs());
             return Played::Done;
         }
         let due = console.due();
@@ -120,7 +120,7 @@ pub fn trace<O: Sink>(
         match put_line(out, &line) {
             Ok(()) => {}
             Err(_) => {
-                console.has_runs();
+                known!(console.has_runs());
                 return Played::WriteFault;
             }
         }

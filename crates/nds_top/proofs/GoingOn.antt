@@ -1,42 +1,27 @@
-use Rattle.std.proofs.Common.{ℕ, ◌≡◌, ◌≢◌, ◌<◌, ◌+◌, nat_lt, List, [], ◌∷◌, take, Option, Some, None, Ok, option_map, refl, sym, ◌∙◌, ap, subst, arith}
-use Rattle.std.specs.Prelude.{IsSomeAnd}
-use Rattle.std.proofs.lemmas.Option.{none-some, same_Some}
-use Rattle.sha2.specs.Sha256.{sha256}
+use Rattle.nds_top.proofs.Words.{ℕ, ◌≡◌, ◌≢◌, ◌<◌, ◌+◌, nat_lt, List, [], take, inl, inr, Option, Some, None, Ok, option_map, refl, sym, ◌∙◌, ap}
+use Rattle.nds_top.proofs.Words.{subst, arith, IsSomeAnd, none-some, same_Some, sha256, KeyLine, Proc, Nine, Seven, image_of, image_place, Named}
+use Rattle.nds_top.proofs.Words.{file_of, At, Ending, Runs, header_bytes, header_place, machine_blank, machine_booted, with_image, Shown, reference}
+use Rattle.nds_top.proofs.Words.{HasSoundParts, MachineState, ConsoleState, read_state, TurnsToEnd, Asked, AskResume, AskRun, AskSave, Asks, Keep}
+use Rattle.nds_top.proofs.Words.{AreKeys, IsCart, cartridge, script, Status, Done, NoMemory, Call, GivesBy, switched_on, latest_of, output_of}
+use Rattle.nds_top.proofs.Words.{IsState, saved_state, CommandGives, Gives, nothing, command, HadNoFault, SavedBy}
+use Rattle.std.proofs.Common.{◌∷◌}
 use Rattle.ds_base.proofs.Choices.{if_false}
-use Rattle.ds_base.specs.declared.keys.KeyLine.{KeyLine}
 use Rattle.ds_base.specs.declared.left_out.LeftOut.{LeftOut}
-use Rattle.ds_base.specs.declared.processors.Proc.{Proc}
-use Rattle.ds_base.specs.declared.processors.Proc.TheVariants.{Nine, Seven}
-use Rattle.ds_header.specs.Fields.{image_of, image_place}
-use Rattle.ds_io.specs.Shelves.{Named, file_of}
-use Rattle.ds_io.specs.Sinks.{Appended}
-use Rattle.ds_runs.specs.Runs.{At, Ending, MachineStep, Runs, over, stops, more}
+use Rattle.ds_runs.specs.Runs.{MachineStep, over, stops, more}
 use Rattle.ds_runs.specs.Runs as runs
-use Rattle.ds_machine.specs.Booted.{header_bytes, header_place, machine_blank, machine_booted, with_image}
 use Rattle.ds_machine.specs.Boots.{copied, stored}
-use Rattle.ds_machine.specs.Reference.{Shown, reference, reference_step}
+use Rattle.ds_machine.specs.Reference.{reference_step}
 use Rattle.ds_machine.specs.Saved.{script_from}
-use Rattle.ds_machine.specs.Sound.{HasSoundParts}
-use Rattle.ds_machine.specs.States.{MachineState}
 use Rattle.ds_machine.specs.Statuses.{left_by}
 use Rattle.ds_machine.specs.Touched.{StepsKeepFile}
-use Rattle.ds_machine.specs.Within.{RunsKeepScript}
-use Rattle.run_ahead.specs.Consoles.{ConsoleState}
-use Rattle.run_ahead.specs.Saved.{StatesAreShort, read_state}
-use Rattle.run_ahead.specs.ToEnd.{TurnsToEnd}
-use Rattle.nds_words.specs.Words.{Asked, AskResume, AskRun, AskSave, Asks}
-use Rattle.nds_words.specs.declared.commands.Keep.{Keep}
-use Rattle.nds_answers.specs.Loads.{AreKeys, IsCart}
-use Rattle.nds_answers.specs.declared.statuses.Status.{Status}
-use Rattle.nds_answers.specs.declared.statuses.Status.TheVariants.{Done, NoMemory}
-use Rattle.nds_plays.specs.Calls.{Call, FromBoot}
+use Rattle.ds_machine.specs.WithinLaws.{RunsKeepScript}
+use Rattle.run_ahead.specs.Saved.{StatesAreShort}
+use Rattle.nds_plays.specs.Calls.{FromBoot}
 use Rattle.nds_plays.specs.Cuts.{RunsAreCut}
-use Rattle.nds_plays.specs.Records.{latest_of, output_of}
-use Rattle.nds_plays.specs.States.{ComesBack, IsState, saved_state}
-use Rattle.nds_top.specs.Answers.{CommandGives, Gives, nothing, command}
-use Rattle.nds_top.specs.Laws.{HadNoFault}
+use Rattle.nds_plays.specs.States.{ComesBack}
 use Rattle.nds_top.specs.Resumes.{HaveSameFiles, WroteTheRest}
-use Rattle.nds_top.proofs.OneAnswer.{Comes, ResumeWrites, RunWrites, TopLaws, WroteSo, command_told, status_at}
+use Rattle.nds_top.proofs.OneAnswer.{Comes, ResumeWrites, TopLaws, WroteSo, command_told, status_at}
+use Rattle.nds_top.proofs.AtBoot.{booted_parts, keys_rise}
 use Rattle.nds_top.proofs.Outcomes.{loaded_comes}
 use Rattle.nds_top.proofs.ResumeOutcomes.{state_comes}
 
@@ -100,7 +85,7 @@ keys_there files files₂ (Some name) (Some name₂) lines same are =
 
 -- ---- what was saved
 
-pub record SavedAt {S : Type 0} (c : Call S) (files : List Named) (cart : List ℕ) (keys : Option (List ℕ)) (first : ℕ) : Type 0 where
+pub record SavedAt (c : Call) (files : List Named) (cart : List ℕ) (keys : Option (List ℕ)) (first : ℕ) : Type 0 where
   pub file : List ℕ
   pub lines : List KeyLine
   pub is_cart : IsCart (Some files) cart file
@@ -111,39 +96,48 @@ pub record SavedAt {S : Type 0} (c : Call S) (files : List Named) (cart : List �
   pub limit : console.limit ≡ first
   pub parts : HasSoundParts (machine_booted file lines)
   pub back : ComesBack console
-  pub wrote : Appended c.tells c.taken c.old c.new (saved_state console)
+  pub wrote : c.wrote (saved_state console)
 
 both_seated : (seat : Option ConsoleState) (P Q : ConsoleState → Type 0) → IsSomeAnd seat P → IsSomeAnd seat Q → (k : ConsoleState) × P k × Q k
 both_seated None P Q p q = absurd p
 both_seated (Some k) P Q p q = (k, p, q)
 
-pub saved_at : {S : Type 0} → TopLaws → (c : Call S) (files : List Named) (words : List (List ℕ)) (cart : List ℕ) (keys : Option (List ℕ)) (first : ℕ) (named : List ℕ) → c.files ≡ Some files
-    → Asks words (AskSave cart keys first) → Gives c words named Done → SavedAt c files cart keys first
-saved_at laws c files words cart keys first named told asks (nothing never is still) = absurd (never (AskSave cart keys first) asks)
-saved_at laws c files words cart keys first named told asks (command asked asks₂ given) =
-    let h = subst (λ (a : Asked). CommandGives c a named Done) (laws.words words asked (AskSave cart keys first) asks₂ asks) given in
+saved_by : (c : Call) (files : List Named) (cart : List ℕ) (keys : Option (List ℕ)) (first : ℕ) (named : List ℕ) → c.files ≡ Some files
+    → GivesBy c cart keys (SavedBy c first Done) named Done → SavedAt c files cart keys first
+saved_by c files cart keys first named told (inr (still, cartridge refused is)) = absurd refused
+saved_by c files cart keys first named told (inr (still, script file accepted is refused)) = absurd refused
+saved_by c files cart keys first named told (inl h) =
     let did = h.4 in
-    let k = both_seated c.seat _ ComesBack did.0 did.2 in
+    let k = both_seated c.seat _ ComesBack did.0 (did.1 refl) in
     let w = k.1.1 in
+    let is_cart = subst (λ (f : Option (List Named)). IsCart f cart h.0) told h.2 in
+    let are_keys = subst (λ (f : Option (List Named)). AreKeys f keys h.1) told h.3 in
     record {
       file = h.0;
       lines = h.1;
-      is_cart = subst (λ (f : Option (List Named)). IsCart f cart h.0) told h.2;
-      are_keys = subst (λ (f : Option (List Named)). AreKeys f keys h.1) told h.3;
+      is_cart = is_cart;
+      are_keys = are_keys;
       console = k.0;
       outs = w.0.0;
       ran = w.0.1;
       limit = w.1;
-      parts = did.1;
+      parts = booted_parts h.0 h.1 is_cart.accepted (keys_rise (Some files) keys h.1 are_keys) (booted_keys h.0 h.1);
       back = k.2;
       wrote = w.0.2;
     }
+
+pub saved_at : TopLaws → (c : Call) (files : List Named) (words : List (List ℕ)) (cart : List ℕ) (keys : Option (List ℕ)) (first : ℕ) (named : List ℕ) → c.files ≡ Some files
+    → Asks words (AskSave cart keys first) → Gives c words named Done → SavedAt c files cart keys first
+saved_at laws c files words cart keys first named told asks (nothing never is still) = absurd (never (AskSave cart keys first) asks)
+saved_at laws c files words cart keys first named told asks (command asked asks₂ given) =
+    let h = subst (λ (a : Asked). CommandGives c a named Done) (laws.words words asked (AskSave cart keys first) asks₂ asks) given in
+    saved_by c files cart keys first named told h
 
 -- ---- with the laws of the machine
 
 module _ (laws : TopLaws) (cuts : RunsAreCut) (scripts : RunsKeepScript) (kept : StepsKeepFile) (shorts : StatesAreShort) where
   -- with the same cartridge and key script what was saved is read as the console, where the run is to go on to a later tick
-  read_there : {S : Type 0} (c : Call S) (files : List Named) (cart : List ℕ) (keys : Option (List ℕ)) (first later : ℕ) (w : SavedAt c files cart keys first) → first < later
+  read_there : (c : Call) (files : List Named) (cart : List ℕ) (keys : Option (List ℕ)) (first later : ℕ) (w : SavedAt c files cart keys first) → first < later
       → read_state (sha256 w.file) later w.file w.lines (saved_state w.console) ≡ Ok w.console
   read_there c files cart keys first later w lt =
       let k = w.console in
@@ -156,23 +150,23 @@ module _ (laws : TopLaws) (cuts : RunsAreCut) (scripts : RunsKeepScript) (kept :
       subst (λ (f : List ℕ). read_state (sha256 f) later f w.lines (saved_state k) ≡ Ok k) file (w.back later w.lines (omega (arith, limit, lt)) here)
 
   -- what is given to what is asked for
-  told_of : {S : Type 0} (c : Call S) (files : List Named) (words : List (List ℕ)) (asked : Asked) (named : List ℕ) (s : Status) (told : c.files ≡ Some files) (none : HadNoFault c)
-      → Asks words asked → s ≢ NoMemory → Gives c words named s → WroteSo c files told none (Comes files asked s)
-  told_of c files words asked named s told none asks ne (nothing never is still) = absurd (never asked asks)
-  told_of c files words asked named s told none asks ne (command asked₂ asks₂ given) =
-      command_told c files told none asked named s ne (subst (λ (a : Asked). CommandGives c a named s) (laws.words words asked₂ asked asks₂ asks) given)
+  told_of : (c : Call) (files : List Named) (words : List (List ℕ)) (asked : Asked) (named : List ℕ) (s : Status) (told : c.files ≡ Some files) (none : HadNoFault c) (kept : c.still → c.wrote [])
+      → Asks words asked → s ≢ NoMemory → Gives c words named s → WroteSo c files told none kept (Comes files asked s)
+  told_of c files words asked named s told none kept asks ne (nothing never is still) = absurd (never asked asks)
+  told_of c files words asked named s told none kept asks ne (command asked₂ asks₂ given) =
+      command_told c files told none kept asked named s ne (subst (λ (a : Asked). CommandGives c a named s) (laws.words words asked₂ asked asks₂ asks) given)
 
-  pub goes_on : {S T U : Type 0} (c : Call S) (d : Call T) (e : Call U) (files files₂ files₃ : List Named) (words words₂ : List (List ℕ)) (cart state cart₂ cart₃ : List ℕ) (keys keys₂ keys₃ : Option (List ℕ))
+  pub goes_on : (c d e : Call) (files files₂ files₃ : List Named) (words words₂ : List (List ℕ)) (cart state cart₂ cart₃ : List ℕ) (keys keys₂ keys₃ : Option (List ℕ))
       (first later : ℕ) (keep : Keep) (named named₂ : List ℕ) (s t : Status) (w : SavedAt c files cart keys first) → d.files ≡ Some files₂ → e.files ≡ Some files₃
-      → HadNoFault d → HadNoFault e → Asks words (AskResume state cart₂ keys₂ later keep) → Asks words₂ (AskRun cart₃ keys₃ later keep) → first < later
+      → HadNoFault d → HadNoFault e → (d.still → d.wrote []) → (e.still → e.wrote []) → Asks words (AskResume state cart₂ keys₂ later keep) → Asks words₂ (AskRun cart₃ keys₃ later keep) → first < later
       → file_of files₂ state ≡ Some (saved_state w.console) → HaveSameFiles files cart keys files₂ cart₂ keys₂ → HaveSameFiles files cart keys files₃ cart₃ keys₃ → s ≢ NoMemory → t ≢ NoMemory
       → Gives d words named s → Gives e words₂ named₂ t → (s ≡ t) × FromBoot e cart₃ keys₃ (WroteTheRest d e first later keep (saved_state w.console))
-  goes_on c d e files files₂ files₃ words words₂ cart state cart₂ cart₃ keys keys₂ keys₃ first later keep named named₂ s t w told told₂ none none₂ asks asks₂ lt there same same₂ ne ne₂ given given₂ =
+  goes_on c d e files files₂ files₃ words words₂ cart state cart₂ cart₃ keys keys₂ keys₃ first later keep named named₂ s t w told told₂ none none₂ kept kept₂ asks asks₂ lt there same same₂ ne ne₂ given given₂ =
       let k = w.console in
       let boot = machine_booted w.file w.lines in
       let saved = saved_state k in
-      let x = told_of d files₂ words (AskResume state cart₂ keys₂ later keep) named s told none asks ne given in
-      let y = told_of e files₃ words₂ (AskRun cart₃ keys₃ later keep) named₂ t told₂ none₂ asks₂ ne₂ given₂ in
+      let x = told_of d files₂ words (AskResume state cart₂ keys₂ later keep) named s told none kept asks ne given in
+      let y = told_of e files₃ words₂ (AskRun cart₃ keys₃ later keep) named₂ t told₂ none₂ kept₂ asks₂ ne₂ given₂ in
       let reads = read_there c files cart keys first later w lt in
       let state_is : IsState (Some files₂) state cart₂ keys₂ later k = (
         saved,
@@ -186,7 +180,7 @@ module _ (laws : TopLaws) (cuts : RunsAreCut) (scripts : RunsKeepScript) (kept :
       let cart_is = cart_there files files₃ cart cart₃ w.file same₂.same_cart w.is_cart in
       let keys_are = keys_there files files₃ keys keys₃ w.lines same₂.same_keys w.are_keys in
       let r : ResumeWrites keep later k s x.0 = state_comes laws.reads files₂ state cart₂ keys₂ later (ResumeWrites keep later) s x.0 k state_is x.1 in
-      let a : RunWrites keep later boot t y.0 = loaded_comes laws.reads files₃ cart₃ keys₃ (RunWrites keep later) t y.0 w.file w.lines cart_is keys_are y.1 in
+      let a : ResumeWrites keep later (switched_on boot) t y.0 = loaded_comes laws.reads files₃ cart₃ keys₃ (λ (m : MachineState). ResumeWrites keep later (switched_on m)) t y.0 w.file w.lines cart_is keys_are y.1 in
       let cut = cuts first later boot k.machine a.end w.outs a.outs w.parts (omega (arith, lt)) w.ran a.ran in
       let one = laws.runs later k.machine r.end a.end r.outs cut.rest r.ran cut.ran in (
         r.status ∙ ap status_at one.0 ∙ sym a.status,
@@ -207,10 +201,10 @@ module _ (laws : TopLaws) (cuts : RunsAreCut) (scripts : RunsKeepScript) (kept :
             whole = a.last;
             turns = subst (λ (en : Ending MachineState LeftOut). TurnsToEnd later k en r.last) one.0 r.turns;
             all_turns = a.turns;
-            wrote_rest = subst (λ (bytes : List ℕ). Appended d.tells d.taken d.old d.new bytes)
+            wrote_rest = subst (λ (bytes : List ℕ). d.wrote bytes)
                 (r.is ∙ ap (λ (en : Ending MachineState LeftOut). output_of later r.last.turns keep (latest_of k.machine) en r.outs) one.0
                 ∙ ap (λ (os : List Shown). output_of later r.last.turns keep (latest_of k.machine) a.end os) one.1) x.2;
-            wrote_whole = subst (λ (bytes : List ℕ). Appended e.tells e.taken e.old e.new bytes) (a.is ∙ cut.written a.last.turns keep) y.2;
+            wrote_whole = subst (λ (bytes : List ℕ). e.wrote bytes) (a.is ∙ cut.written a.last.turns keep) y.2;
           },
         ),
       )

@@ -1,3 +1,5 @@
+mod Words
+mod AtBoot
 mod OneAnswer
 mod Outcomes
 mod ResumeOutcomes
@@ -6,3 +8,4 @@ pub mod Resuming
 pub mod Running
 pub mod Viewing
 mod GoingOn
+mod Written

@@ -1,43 +1,24 @@
-use Rattle.std.proofs.Common.{ℕ, ◌≡◌, ◌≢◌, ◌<◌, ◌≤◌, ◌⊎◌, inl, inr, List, [], length, take, Option, Some, None, refl, sym, ◌∙◌, ap, subst, arith}
-use Rattle.std.specs.Prelude.{IsSomeAnd}
+use Rattle.nds_top.proofs.Words.{ℕ, ◌≡◌, ◌≢◌, ◌<◌, ◌≤◌, ◌⊎◌, inl, inr, List, [], length, take, Option, Some, None, refl, sym, ◌∙◌, ap, subst, arith}
+use Rattle.nds_top.proofs.Words.{IsSomeAnd, Proc, Named, file_of, Ending, At, Runs, machine_booted, Shown, reference, MachineState, IsFirstBad}
+use Rattle.nds_top.proofs.Words.{IsListing, ConsoleState, TurnsToEnd, Asked, AskRun, AskSave, AskResume, Asks, Keep, status_number, Status, Call}
+use Rattle.nds_top.proofs.Words.{GivesBy, switched_on, same_Some, AreKeys, IsCart, IsFileRead, Refuses, RefusesCart, RefusesRun, most_bytes}
+use Rattle.nds_top.proofs.Words.{latest_of, output_of, RanFrom, DemoGives, TracedBy, WroteAfter, demo_booted, demo_of, peeked, RefusesFiles}
+use Rattle.nds_top.proofs.Words.{IsBadState, IsState, saved_after, SavedBy, CommandGives, Gives, nothing, command, HadNoFault}
 use Rattle.std.specs.List.{concat}
 use Rattle.ds_base.specs.declared.left_out.LeftOut.{LeftOut}
-use Rattle.ds_base.specs.declared.processors.Proc.{Proc}
-use Rattle.ds_io.specs.Faults.{Rose}
-use Rattle.ds_io.specs.Shelves.{Named, file_of}
-use Rattle.ds_io.specs.Sinks.{Appended}
-use Rattle.ds_io.proofs.SinkLemmas.{append_none}
 use Rattle.ds_runs.specs.Laws.{RunsAreOne}
-use Rattle.ds_runs.specs.Runs.{Ending, At, Stopped, Runs}
-use Rattle.ds_machine.specs.Booted.{machine_booted}
-use Rattle.ds_machine.specs.Reference.{Shown, reference}
-use Rattle.ds_machine.specs.States.{MachineState}
-use Rattle.asm_files.specs.Listings.{IsFirstBad, IsListing}
+use Rattle.ds_runs.specs.Runs.{Stopped}
 use Rattle.asm_text.specs.declared.sets.Set.{Set}
-use Rattle.run_ahead.specs.Consoles.{ConsoleState}
-use Rattle.run_ahead.specs.ToEnd.{TurnsAreOne, TurnsToEnd}
-use Rattle.nds_words.specs.Words.{Asked, AskRun, AskList, AskAsm, AskTrace, AskPeek, AskDemo, AskSave, AskResume, Asks, WordsAskForOne}
-use Rattle.nds_words.specs.declared.commands.Keep.{Keep}
-use Rattle.nds_answers.specs.Statuses.{status_number}
-use Rattle.nds_answers.specs.declared.statuses.Status.{Status}
+use Rattle.run_ahead.specs.ToEndLaws.{TurnsAreOne}
+use Rattle.nds_words.specs.Words.{AskList, AskAsm, AskTrace, AskPeek, AskDemo, WordsAskForOne}
 use Rattle.nds_answers.specs.declared.statuses.Status.TheVariants as statuses
-use Rattle.nds_plays.specs.Calls.{Call, FromBoot, IsUntouched, Seated, switched_on}
+use Rattle.nds_plays.specs.Calls.{Seated, Written}
 use Rattle.nds_top.specs.ListingAnswers.{AsmGives, ListGives, listing_of}
-use Rattle.std.proofs.lemmas.Option.{same_Some}
-use Rattle.nds_answers.specs.Loads.{AreKeys, IsCart, IsFileRead, Refuses, RefusesCart, RefusesRun, most_bytes, most_text}
-use Rattle.nds_plays.specs.Plays.{Wrote}
-use Rattle.nds_plays.specs.Records.{latest_of, output_of}
-use Rattle.nds_plays.specs.declared.plays.Played.{Played}
-use Rattle.nds_plays.specs.declared.plays.Played.TheVariants as played
-use Rattle.nds_top.specs.RunAnswers.{RunGives}
-use Rattle.nds_top.specs.ViewAnswers.{DemoGives, GivesBy, TracedBy, WroteAfter, demo_booted}
-use Rattle.nds_plays.specs.Watches.{IsAt, LinesAreOne, demo_of, run_lines, peeked, trace_of}
-use Rattle.nds_answers.specs.Loads.{RefusesFiles}
-use Rattle.nds_plays.specs.States.{IsBadState, IsState, saved_after}
-use Rattle.nds_top.specs.StateAnswers.{ResumeGives, SavedBy}
+use Rattle.nds_answers.specs.Loads.{most_text}
+use Rattle.nds_plays.specs.Watches.{IsCutTrace, IsWholeTrace, LinesAreOne, run_lines, trace_of}
+use Rattle.nds_top.specs.StateAnswers.{ResumeGives}
 use Rattle.nds_top.proofs.ResumeOutcomes.{ResumeComes, bad_state, resume_comes_one, resume_refused, resumed, state_comes}
-use Rattle.nds_top.specs.Answers.{CommandGives, Gives, nothing, command}
-use Rattle.nds_top.specs.Laws.{CanBeDone, ComesTo, HadNoFault}
+use Rattle.nds_top.specs.Laws.{CanBeDone, ComesTo}
 use Rattle.nds_top.proofs.Outcomes.{IsOne, ReadLaws, RunComes, loaded, cart_fine, cart_refusal, cart_refused, loaded_comes, memory_or_not, not_both, read_fine, refusal, refused, run_comes_one, run_refused, same_file}
 
 -- What is asked for comes to one status and one list of bytes, by the files alone.
@@ -57,17 +38,7 @@ abbrev pub status_at : Ending MachineState LeftOut → Status
 status_at (At s) = statuses.Done
 status_at (Stopped left) = statuses.LeftOut left
 
--- its records
-pub record RunWrites (keep : Keep) (ticks : ℕ) (boot : MachineState) (s : Status) (bytes : List ℕ) : Type 0 where
-  pub end : Ending MachineState LeftOut
-  pub last : ConsoleState
-  pub outs : List Shown
-  pub turns : TurnsToEnd ticks (switched_on boot) end last
-  pub ran : Runs reference ticks end boot outs
-  pub status : s ≡ status_at end
-  pub is : bytes ≡ output_of ticks last.turns keep (latest_of boot) end outs
-
--- the same of a run that goes on from a console
+-- its records, where it goes on from a console
 pub record ResumeWrites (keep : Keep) (ticks : ℕ) (start : ConsoleState) (s : Status) (bytes : List ℕ) : Type 0 where
   pub end : Ending MachineState LeftOut
   pub last : ConsoleState
@@ -79,8 +50,8 @@ pub record ResumeWrites (keep : Keep) (ticks : ℕ) (start : ConsoleState) (s : 
 
 -- the lines of its steps
 abbrev pub TraceEnds : ℕ → ℕ → Ending MachineState LeftOut → Status → Type 0
-TraceEnds count lines end statuses.Done = (count ≤ lines) ⊎ IsAt end
-TraceEnds count lines end (statuses.LeftOut left) = (end ≡ Stopped left) × (lines < count)
+TraceEnds count lines end statuses.Done = IsWholeTrace count lines end
+TraceEnds count lines end (statuses.LeftOut left) = IsCutTrace left count lines end
 TraceEnds count lines end other = ⊥
 
 pub record TraceWrites (proc : Proc) (count ticks : ℕ) (boot : MachineState) (s : Status) (bytes : List ℕ) : Type 0 where
@@ -105,16 +76,6 @@ same_left : (a b : LeftOut) → (let end : Ending MachineState LeftOut = Stopped
 same_left a b e = ap status_at e
 
 module _ (laws : TopLaws) where
-  pub run_one : (keep : Keep) (ticks : ℕ) (boot : MachineState) → IsOne (RunWrites keep ticks boot)
-  run_one keep ticks boot s t xs ys a b =
-      let e = laws.turns ticks (switched_on boot) a.last b.last a.end b.end a.turns b.turns in
-      let r = laws.runs ticks boot a.end b.end a.outs b.outs a.ran b.ran in (
-        a.status ∙ ap status_at e.0 ∙ sym b.status,
-        a.is ∙ ap (λ (k : ConsoleState). output_of ticks k.turns keep (latest_of boot) a.end a.outs) e.1
-            ∙ ap (λ (x : Ending MachineState LeftOut). output_of ticks b.last.turns keep (latest_of boot) x a.outs) e.0
-            ∙ ap (λ (o : List Shown). output_of ticks b.last.turns keep (latest_of boot) b.end o) r.1 ∙ sym b.is,
-      )
-
   pub resume_one : (keep : Keep) (ticks : ℕ) (start : ConsoleState) → IsOne (ResumeWrites keep ticks start)
   resume_one keep ticks start s t xs ys a b =
       let e = laws.turns ticks start a.last b.last a.end b.end a.turns b.turns in
@@ -129,11 +90,11 @@ module _ (laws : TopLaws) where
   trace_status count n end statuses.Done statuses.Done a b = refl
   trace_status count n end statuses.Done (statuses.LeftOut left) a b = absurd (elim a [
     | inl le ↦ (let lt = b.1 in omega (arith, le, lt))
-    | inr at ↦ subst IsAt b.0 at
+    | inr at ↦ at_or_stopped at.0 left (sym at.1 ∙ b.0)
   ])
   trace_status count n end (statuses.LeftOut left) statuses.Done a b = absurd (elim b [
     | inl le ↦ (let lt = a.1 in omega (arith, le, lt))
-    | inr at ↦ subst IsAt a.0 at
+    | inr at ↦ at_or_stopped at.0 left (sym at.1 ∙ a.0)
   ])
   trace_status count n end (statuses.LeftOut left) (statuses.LeftOut stop) a b = same_left left stop (sym a.0 ∙ b.0)
   trace_status count n end (statuses.LeftOut left) _ a b = absurd b
@@ -176,7 +137,7 @@ AsmComes files name s bytes = ((refusal most_text (file_of files name) ≡ Some 
     ⊎ ((text : List ℕ) × (image : List ℕ) × IsFileRead (Some files) name most_text text × IsListing text image × (s ≡ statuses.Done) × (bytes ≡ image)))
 
 abbrev pub Comes : List Named → Asked → Status → List ℕ → Type 0
-Comes files (AskRun cart keys ticks keep) s bytes = RunComes files cart keys (RunWrites keep ticks) s bytes
+Comes files (AskRun cart keys ticks keep) s bytes = RunComes files cart keys (λ boot. ResumeWrites keep ticks (switched_on boot)) s bytes
 Comes files (AskList name proc set) s bytes = ListComes files name proc set s bytes
 Comes files (AskAsm name) s bytes = AsmComes files name s bytes
 Comes files (AskTrace cart keys ticks proc count) s bytes = RunComes files cart keys (TraceWrites proc count ticks) s bytes
@@ -227,7 +188,7 @@ module _ (laws : TopLaws) (files : List Named) where
         text_one y.0 s t xs ys (subst (λ (text : List ℕ). TextComes text s xs) (same_file files name most_text x.0 y.0 x.1 y.1) x.2) y.2
 
   pub comes_one : (asked : Asked) → IsOne (Comes files asked)
-  comes_one (AskRun cart keys ticks keep) = run_comes_one reads files cart keys (RunWrites keep ticks) (run_one laws keep ticks)
+  comes_one (AskRun cart keys ticks keep) = run_comes_one reads files cart keys (λ boot. ResumeWrites keep ticks (switched_on boot)) (λ boot. resume_one laws keep ticks (switched_on boot))
   comes_one (AskList name proc set) = list_one name proc set
   comes_one (AskAsm name) = asm_one name
   comes_one (AskTrace cart keys ticks proc count) = run_comes_one reads files cart keys (TraceWrites proc count ticks) (trace_one laws proc count ticks)
@@ -244,142 +205,151 @@ seated_console : (seat : Option ConsoleState) (P : ConsoleState → Type 0) → 
 seated_console None P h = absurd h
 seated_console (Some k) P h = (k, h)
 
--- nothing was written
-none_written : {S : Type 0} (c : Call S) → c.new ≡ c.old → Appended c.tells c.taken c.old c.new []
-none_written {S} c same = subst (λ (x : S). Appended c.tells c.taken c.old x []) (sym same) (append_none c.tells c.taken c.old)
-
-module _ {S : Type 0} (c : Call S) (files : List Named) (told : c.files ≡ Some files) (none : HadNoFault c) where
+module _ (c : Call) (files : List Named) (told : c.files ≡ Some files) (none : HadNoFault c) (kept : c.still → c.wrote []) where
   -- bytes that were written
   abbrev pub WroteSo : (List ℕ → Type 0) → Type 0
-  WroteSo Is = (bytes : List ℕ) × Is bytes × Appended c.tells c.taken c.old c.new bytes
+  WroteSo Is = (bytes : List ℕ) × Is bytes × c.wrote bytes
 
-  untouched : (Is : List ℕ → Type 0) → c.new ≡ c.old → Is [] → WroteSo Is
-  untouched Is same is = ([], is, none_written c same)
+  untouched : (Is : List ℕ → Type 0) → c.still → Is [] → WroteSo Is
+  untouched Is still is = ([], is, kept still)
 
   by_told : (P : Option (List Named) → Type 0) → P c.files → P (Some files)
   by_told P h = subst P told h
 
-  -- where the cartridge ran
-  from_boot : (cart : List ℕ) (keys : Option (List ℕ)) (Comes₁ : MachineState → Status → List ℕ → Type 0) (s : Status) (did : MachineState → Type 0) → FromBoot c cart keys did
-      → ((boot : MachineState) → did boot → WroteSo (Comes₁ boot s)) → WroteSo (RunComes files cart keys Comes₁ s)
-  from_boot cart keys Comes₁ s did h each =
+  -- bytes that were written by the status
+  written : (s : Status) (bytes : List ℕ) → Written c s bytes → (s ≡ statuses.Done) × c.wrote bytes
+  written statuses.Done bytes h = (refl, h)
+  written statuses.WriteFault bytes h = absurd (none.out h.0)
+  written statuses.Usage bytes h = absurd h
+  written statuses.NoFile bytes h = absurd h
+  written statuses.ReadFault bytes h = absurd h
+  written statuses.TooLong bytes h = absurd h
+  written (statuses.BadHeader fault) bytes h = absurd h
+  written (statuses.BadScript line column) bytes h = absurd h
+  written (statuses.LeftOut left) bytes h = absurd h
+  written (statuses.BadText line) bytes h = absurd h
+  written (statuses.BadState offset) bytes h = absurd h
+  written statuses.NoMemory bytes h = absurd h
+
+  -- a command that runs a cartridge, by what it did
+  by_told_run : (cart : List ℕ) (keys : Option (List ℕ)) (did : MachineState → Type 0) (Comes₁ : MachineState → Status → List ℕ → Type 0) (named : List ℕ) (s : Status) → s ≢ statuses.NoMemory
+      → ((boot : MachineState) → did boot → WroteSo (Comes₁ boot s)) → GivesBy c cart keys did named s → WroteSo (RunComes files cart keys Comes₁ s)
+  by_told_run cart keys did Comes₁ named s ne each (inl h) =
       let w = each (machine_booted h.0 h.1) h.4 in
       (w.0, loaded h.0 h.1 (by_told (λ f. IsCart f cart h.0) h.2) (by_told (λ f. AreKeys f keys h.1) h.3) w.1, w.2)
+  by_told_run cart keys did Comes₁ named s ne each (inr h) =
+      let refused = by_told (λ f. RefusesRun f c.shelf_rose cart keys s named) h.1 in
+      untouched (RunComes files cart keys Comes₁ s) h.0.0 (run_refused files c.shelf_rose cart keys Comes₁ s named none.shelf ne refused)
 
-  -- where its files are refused
-  from_files : (cart : List ℕ) (keys : Option (List ℕ)) (Comes₁ : MachineState → Status → List ℕ → Type 0) (s : Status) (named : List ℕ) → s ≢ statuses.NoMemory → IsUntouched c
-      → RefusesRun c.files (Rose c.shelf_before c.shelf_after) cart keys s named → WroteSo (RunComes files cart keys Comes₁ s)
-  from_files cart keys Comes₁ s named ne still h =
-      let refused = by_told (λ f. RefusesRun f (Rose c.shelf_before c.shelf_after) cart keys s named) h in
-      untouched (RunComes files cart keys Comes₁ s) still.0 (run_refused files (Rose c.shelf_before c.shelf_after) cart keys Comes₁ s named none.shelf ne refused)
-
-  run_told : (cart : List ℕ) (keys : Option (List ℕ)) (ticks : ℕ) (keep : Keep) (named : List ℕ) (s : Status) → s ≢ statuses.NoMemory → RunGives c cart keys ticks keep named s
-      → WroteSo (RunComes files cart keys (RunWrites keep ticks) s)
-  run_told cart keys ticks keep named statuses.Done ne h =
-      from_boot cart keys (RunWrites keep ticks) statuses.Done
-      (λ boot. Seated c boot ticks (λ k. Wrote c.tells c.taken ticks keep (switched_on boot) (At k.machine) k c.old c.new × (k.limit ≡ ticks) × (k.stopped ≡ None))) h
-      (λ boot seated. (let k = seated_console c.seat _ seated in
+  -- a console was run
+  ran_told : (ticks : ℕ) (keep : Keep) (start : ConsoleState) (s : Status) → RanFrom c ticks keep start s → WroteSo (ResumeWrites keep ticks start s)
+  ran_told ticks keep start statuses.Done h =
+      (let k = seated_console c.seat _ h in
       let w = k.1.1.0 in
-      (_, record { end = At k.0.machine; last = k.0; outs = w.outs; turns = w.turns; ran = w.ran; status = refl; is = refl }, w.written)))
-  run_told cart keys ticks keep named (statuses.LeftOut left) ne h =
-      from_boot cart keys (RunWrites keep ticks) (statuses.LeftOut left)
-      (λ boot. Seated c boot ticks (λ k. Wrote c.tells c.taken ticks keep (switched_on boot) (Stopped left) k c.old c.new × (k.stopped ≡ Some left))) h
-      (λ boot seated. (let k = seated_console c.seat _ seated in
+      (_, record { end = At k.0.machine; last = k.0; outs = w.outs; turns = w.turns; ran = w.ran; status = refl; is = refl }, w.written))
+  ran_told ticks keep start (statuses.LeftOut left) h =
+      (let k = seated_console c.seat _ h in
       let w = k.1.1.0 in
-      (_, record { end = Stopped left; last = k.0; outs = w.outs; turns = w.turns; ran = w.ran; status = refl; is = refl }, w.written)))
-  run_told cart keys ticks keep named statuses.WriteFault ne h = absurd (none.out h.0)
-  run_told cart keys ticks keep named s ne h = from_files cart keys (RunWrites keep ticks) s named ne h.0 h.1
-
-  -- what a command of views did, by its answer
-  by_told_views : (cart : List ℕ) (keys : Option (List ℕ)) (did : Played → MachineState → Type 0) (Comes₁ : MachineState → Status → List ℕ → Type 0) (named : List ℕ) (s : Status)
-      → s ≢ statuses.NoMemory → ((boot : MachineState) → did played.Done boot → WroteSo (Comes₁ boot statuses.Done))
-      → ((left : LeftOut) (boot : MachineState) → did (played.LeftOut left) boot → WroteSo (Comes₁ boot (statuses.LeftOut left))) → ((boot : MachineState) → did played.WriteFault boot → ⊥)
-      → GivesBy c cart keys did named s → WroteSo (RunComes files cart keys Comes₁ s)
-  by_told_views cart keys did Comes₁ named statuses.Done ne done stopped fault h = from_boot cart keys Comes₁ statuses.Done (did played.Done) h done
-  by_told_views cart keys did Comes₁ named (statuses.LeftOut left) ne done stopped fault h =
-      from_boot cart keys Comes₁ (statuses.LeftOut left) (did (played.LeftOut left)) h (stopped left)
-  by_told_views cart keys did Comes₁ named statuses.WriteFault ne done stopped fault h = absurd (fault (machine_booted h.0 h.1) h.4)
-  by_told_views cart keys did Comes₁ named s ne done stopped fault h = from_files cart keys Comes₁ s named ne h.0 h.1
+      (_, record { end = Stopped left; last = k.0; outs = w.outs; turns = w.turns; ran = w.ran; status = refl; is = refl }, w.written))
+  ran_told ticks keep start statuses.WriteFault h = absurd (none.out h.0)
+  ran_told ticks keep start statuses.Usage h = absurd h
+  ran_told ticks keep start statuses.NoFile h = absurd h
+  ran_told ticks keep start statuses.ReadFault h = absurd h
+  ran_told ticks keep start statuses.TooLong h = absurd h
+  ran_told ticks keep start (statuses.BadHeader fault) h = absurd h
+  ran_told ticks keep start (statuses.BadScript line column) h = absurd h
+  ran_told ticks keep start (statuses.BadText line) h = absurd h
+  ran_told ticks keep start (statuses.BadState offset) h = absurd h
+  ran_told ticks keep start statuses.NoMemory h = absurd h
 
   -- a trace
-  traced_done : (ticks : ℕ) (proc : Proc) (count : ℕ) (boot : MachineState) → TracedBy c ticks proc count played.Done boot → WroteSo (TraceWrites proc count ticks boot statuses.Done)
-  traced_done ticks proc count boot h = (let w = h.0 in (_, record { end = w.0; outs = w.1; ran = w.2; ends = w.3; is = refl }, w.4))
+  traced_told : (ticks : ℕ) (proc : Proc) (count : ℕ) (boot : MachineState) (s : Status) → TracedBy c ticks proc count s boot → WroteSo (TraceWrites proc count ticks boot s)
+  traced_told ticks proc count boot statuses.Done h = (let w = h.1 in (_, record { end = w.0; outs = w.1; ran = w.2; ends = w.3; is = refl }, w.4))
+  traced_told ticks proc count boot (statuses.LeftOut left) h = (let w = h.1 in (_, record { end = w.0; outs = w.1; ran = w.2; ends = w.3; is = refl }, w.4))
+  traced_told ticks proc count boot statuses.WriteFault h = absurd (none.out h.1)
+  traced_told ticks proc count boot statuses.Usage h = absurd h
+  traced_told ticks proc count boot statuses.NoFile h = absurd h
+  traced_told ticks proc count boot statuses.ReadFault h = absurd h
+  traced_told ticks proc count boot statuses.TooLong h = absurd h
+  traced_told ticks proc count boot (statuses.BadHeader fault) h = absurd h
+  traced_told ticks proc count boot (statuses.BadScript line column) h = absurd h
+  traced_told ticks proc count boot (statuses.BadText line) h = absurd h
+  traced_told ticks proc count boot (statuses.BadState offset) h = absurd h
+  traced_told ticks proc count boot statuses.NoMemory h = absurd h
 
-  traced_stop : (ticks : ℕ) (proc : Proc) (count : ℕ) (left : LeftOut) (boot : MachineState) → TracedBy c ticks proc count (played.LeftOut left) boot
-      → WroteSo (TraceWrites proc count ticks boot (statuses.LeftOut left))
-  traced_stop ticks proc count left boot h = (let w = h.0 in (_, record { end = Stopped left; outs = w.0; ran = w.1; ends = (refl, w.2); is = refl }, w.3))
+  -- what was written where the run came to its tick
+  abbrev After : (ConsoleState → List Shown → List ℕ) → ℕ → MachineState → Status → Type 0
+  After tell ticks boot s = Seated c ticks (switched_on boot) (λ k. ((outs : List Shown) × Runs reference ticks (At k.machine) boot outs × Written c s (tell k outs)) × (k.limit ≡ ticks)
+      × (k.stopped ≡ None) × TurnsToEnd ticks (switched_on boot) (At k.machine) k)
+
+  after_so : (tell : ConsoleState → List Shown → List ℕ) (ticks : ℕ) (boot : MachineState) (s : Status) → After tell ticks boot s → WroteSo (AfterWrites tell ticks boot s)
+  after_so tell ticks boot s h =
+      let k = seated_console c.seat _ h in
+      let w = k.1.1 in
+      let so = written s (tell k.0 w.0.0) w.0.2 in
+      (tell k.0 w.0.0, subst (λ (t : Status). AfterWrites tell ticks boot t (tell k.0 w.0.0)) (sym so.0) (k.0, w.0.0, w.0.1, w.3, refl), so.1)
 
   -- what is written after a run
-  after_done : (tell : ConsoleState → List Shown → List ℕ) (ticks : ℕ) (boot : MachineState) → WroteAfter c ticks tell played.Done boot → WroteSo (AfterWrites tell ticks boot statuses.Done)
-  after_done tell ticks boot h = (let k = seated_console c.seat _ h in let w = k.1.1 in (tell k.0 w.0.0, (k.0, w.0.0, w.0.1, w.3, refl), w.0.2))
-
-  after_stop : (tell : ConsoleState → List Shown → List ℕ) (ticks : ℕ) (left : LeftOut) (boot : MachineState) → WroteAfter c ticks tell (played.LeftOut left) boot
-      → WroteSo (AfterWrites tell ticks boot (statuses.LeftOut left))
-  after_stop tell ticks left boot h =
+  after_told : (tell : ConsoleState → List Shown → List ℕ) (ticks : ℕ) (boot : MachineState) (s : Status) → WroteAfter c ticks tell s boot → WroteSo (AfterWrites tell ticks boot s)
+  after_told tell ticks boot (statuses.LeftOut left) h =
       (let k = seated_console c.seat _ h.1 in let w = k.1.1.0 in untouched (AfterWrites tell ticks boot (statuses.LeftOut left)) h.0 (w.0, w.1, refl))
+  after_told tell ticks boot statuses.Done h = after_so tell ticks boot statuses.Done h
+  after_told tell ticks boot statuses.WriteFault h = after_so tell ticks boot statuses.WriteFault h
+  after_told tell ticks boot statuses.Usage h = after_so tell ticks boot statuses.Usage h
+  after_told tell ticks boot statuses.NoFile h = after_so tell ticks boot statuses.NoFile h
+  after_told tell ticks boot statuses.ReadFault h = after_so tell ticks boot statuses.ReadFault h
+  after_told tell ticks boot statuses.TooLong h = after_so tell ticks boot statuses.TooLong h
+  after_told tell ticks boot (statuses.BadHeader fault) h = after_so tell ticks boot (statuses.BadHeader fault) h
+  after_told tell ticks boot (statuses.BadScript line column) h = after_so tell ticks boot (statuses.BadScript line column) h
+  after_told tell ticks boot (statuses.BadText line) h = after_so tell ticks boot (statuses.BadText line) h
+  after_told tell ticks boot (statuses.BadState offset) h = after_so tell ticks boot (statuses.BadState offset) h
+  after_told tell ticks boot statuses.NoMemory h = after_so tell ticks boot statuses.NoMemory h
 
   -- where the run goes on from a saved console
   resume_told : (state cart : List ℕ) (keys : Option (List ℕ)) (ticks : ℕ) (keep : Keep) (named : List ℕ) (s : Status) → s ≢ statuses.NoMemory → ResumeGives c state cart keys ticks keep named s
       → WroteSo (ResumeComes files state cart keys ticks (ResumeWrites keep ticks) s)
-  resume_told state cart keys ticks keep named statuses.Done ne h =
-      (let k = seated_console c.seat _ h.2 in
-      let w = k.1.1.0 in (
-        _,
-        resumed h.0 (by_told (λ f. IsState f state cart keys ticks h.0) h.1)
-            (record { end = At k.0.machine; last = k.0; outs = w.outs; turns = w.turns; ran = w.ran; status = refl; is = refl }),
-        w.written,
-      ))
-  resume_told state cart keys ticks keep named (statuses.LeftOut left) ne h =
-      (let k = seated_console c.seat _ h.2 in
-      let w = k.1.1.0 in (
-        _,
-        resumed h.0 (by_told (λ f. IsState f state cart keys ticks h.0) h.1)
-            (record { end = Stopped left; last = k.0; outs = w.outs; turns = w.turns; ran = w.ran; status = refl; is = refl }),
-        w.written,
-      ))
-  resume_told state cart keys ticks keep named statuses.WriteFault ne h = absurd (none.out h.0)
-  resume_told state cart keys ticks keep named (statuses.BadState offset) ne h =
+  resume_told state cart keys ticks keep named s ne (inl h) =
+      let w = ran_told ticks keep h.0 s h.2 in
+      (w.0, resumed h.0 (by_told (λ f. IsState f state cart keys ticks h.0) h.1) w.1, w.2)
+  resume_told state cart keys ticks keep named (statuses.BadState offset) ne (inr h) =
       untouched (ResumeComes files state cart keys ticks (ResumeWrites keep ticks) (statuses.BadState offset)) h.0.0
       (bad_state offset (by_told (λ f. IsBadState f state cart keys ticks offset) h.1) refl refl)
-  resume_told state cart keys ticks keep named s ne h =
-      let no = by_told (λ f. RefusesFiles f (Rose c.shelf_before c.shelf_after) state cart keys s named) h.1 in
+  resume_told state cart keys ticks keep named s ne (inr h) =
+      let no = by_told (λ f. RefusesFiles f c.shelf_rose state cart keys s named) h.1 in
       untouched (ResumeComes files state cart keys ticks (ResumeWrites keep ticks) s) h.0.0
-      (resume_refused files (Rose c.shelf_before c.shelf_after) state cart keys ticks (ResumeWrites keep ticks) s named none.shelf ne no)
+      (resume_refused files c.shelf_rose state cart keys ticks (ResumeWrites keep ticks) s named none.shelf ne no)
 
   demo_told : (number ticks : ℕ) (s : Status) → s ≢ statuses.NoMemory → DemoGives c number ticks s → WroteSo (Comes files (AskDemo number ticks) s)
-  demo_told number ticks statuses.Done ne h = after_done (demo_of number ticks (demo_booted number)) ticks (demo_booted number) h
-  demo_told number ticks (statuses.LeftOut left) ne h = after_stop (demo_of number ticks (demo_booted number)) ticks left (demo_booted number) h
-  demo_told number ticks statuses.WriteFault ne h = absurd (none.out h.0)
-  demo_told number ticks statuses.NoMemory ne h = absurd (ne refl)
-  demo_told number ticks s ne h = absurd h
+  demo_told number ticks s ne (inl h) = after_told (demo_of number ticks (demo_booted number)) ticks (demo_booted number) s h
+  demo_told number ticks s ne (inr h) = absurd (ne h.1)
 
   list_told : (name : List ℕ) (proc : Proc) (set : Set) (s : Status) → s ≢ statuses.NoMemory → ListGives c name proc set s → WroteSo (ListComes files name proc set s)
-  list_told name proc set statuses.Done ne h = (listing_of h.0 proc set, inr (h.0, by_told (λ f. IsCart f name h.0) h.1, refl, refl), h.2)
-  list_told name proc set statuses.WriteFault ne h = absurd (none.out h.0)
-  list_told name proc set s ne h =
-      let no = by_told (λ f. RefusesCart f (Rose c.shelf_before c.shelf_after) name s) h.1 in
-      untouched (ListComes files name proc set s) h.0.0 (inl (cart_refused files (Rose c.shelf_before c.shelf_after) none.shelf name s ne no, refl))
+  list_told name proc set s ne (inl h) =
+      let so = written s (listing_of h.0 proc set) h.2 in
+      (listing_of h.0 proc set, inr (h.0, by_told (λ f. IsCart f name h.0) h.1, so.0, refl), so.1)
+  list_told name proc set s ne (inr h) =
+      let no = by_told (λ f. RefusesCart f c.shelf_rose name s) h.1 in
+      untouched (ListComes files name proc set s) h.0.0 (inl (cart_refused files c.shelf_rose none.shelf name s ne no, refl))
 
   asm_told : (name : List ℕ) (s : Status) → s ≢ statuses.NoMemory → AsmGives c name s → WroteSo (AsmComes files name s)
-  asm_told name statuses.Done ne h = (h.1, inr (inr (h.0, h.1, by_told (λ f. IsFileRead f name most_text h.0) h.2, h.3, refl, refl)), h.4)
-  asm_told name statuses.WriteFault ne h = absurd (none.out h.0)
-  asm_told name (statuses.BadText line) ne h =
+  asm_told name s ne (inl h) = let so = written s h.1 h.4 in (h.1, inr (inr (h.0, h.1, by_told (λ f. IsFileRead f name most_text h.0) h.2, h.3, so.0, refl)), so.1)
+  asm_told name (statuses.BadText line) ne (inr h) =
       untouched (AsmComes files name (statuses.BadText line)) h.0.0 (inr (inl (h.1.0, line, by_told (λ f. IsFileRead f name most_text h.1.0) h.1.1, h.1.2, refl, refl)))
-  asm_told name s ne h =
-      let no = by_told (λ f. Refuses f (Rose c.shelf_before c.shelf_after) name most_text s) h.1 in
-      untouched (AsmComes files name s) h.0.0 (inl (refused files (Rose c.shelf_before c.shelf_after) none.shelf name most_text s ne no, refl))
+  asm_told name s ne (inr h) =
+      let no = by_told (λ f. Refuses f c.shelf_rose name most_text s) h.1 in
+      untouched (AsmComes files name s) h.0.0 (inl (refused files c.shelf_rose none.shelf name most_text s ne no, refl))
 
   pub command_told : (asked : Asked) (named : List ℕ) (s : Status) → s ≢ statuses.NoMemory → CommandGives c asked named s → WroteSo (Comes files asked s)
-  command_told (AskRun cart keys ticks keep) named s ne h = run_told cart keys ticks keep named s ne h
+  command_told (AskRun cart keys ticks keep) named s ne h =
+      by_told_run cart keys (λ boot. RanFrom c ticks keep (switched_on boot) s) (λ boot. ResumeWrites keep ticks (switched_on boot)) named s ne (λ boot w. ran_told ticks keep (switched_on boot) s w) h
   command_told (AskList name proc set) named s ne h = list_told name proc set s ne h.0
   command_told (AskAsm name) named s ne h = asm_told name s ne h.0
   command_told (AskTrace cart keys ticks proc count) named s ne h =
-      by_told_views cart keys (TracedBy c ticks proc count) (TraceWrites proc count ticks) named s ne (traced_done ticks proc count) (traced_stop ticks proc count) (λ boot w. none.out w.1) h
+      by_told_run cart keys (TracedBy c ticks proc count s) (TraceWrites proc count ticks) named s ne (λ boot w. traced_told ticks proc count boot s w) h
   command_told (AskPeek cart keys ticks memory place count) named s ne h =
-      by_told_views cart keys (WroteAfter c ticks (peeked memory place count)) (AfterWrites (peeked memory place count) ticks) named s ne (after_done (peeked memory place count) ticks)
-      (after_stop (peeked memory place count) ticks) (λ boot w. none.out w.0) h
+      by_told_run cart keys (WroteAfter c ticks (peeked memory place count) s) (AfterWrites (peeked memory place count) ticks) named s ne (λ boot w. after_told (peeked memory place count) ticks boot s w) h
   command_told (AskSave cart keys ticks) named s ne h =
-      by_told_views cart keys (SavedBy c ticks) (AfterWrites saved_after ticks) named s ne (λ boot w. after_done saved_after ticks boot w.0) (after_stop saved_after ticks) (λ boot w. none.out w.0) h
+      by_told_run cart keys (SavedBy c ticks s) (AfterWrites saved_after ticks) named s ne (λ boot w. after_told saved_after ticks boot s w.0) h
   command_told (AskResume state cart keys ticks keep) named s ne h = resume_told state cart keys ticks keep named s ne h
   command_told (AskDemo number ticks) named s ne h = demo_told number ticks s ne h
 
@@ -398,7 +368,7 @@ module _ (laws : TopLaws) (files : List Named) where
 
   pub done_then : (asked : Asked) (s : Status) (bytes : List ℕ) → CanBeDone files asked → Comes files asked s bytes → s ≡ statuses.Done
   done_then (AskRun cart keys ticks keep) s bytes can h =
-      let w = loaded_comes laws.reads files cart keys (RunWrites keep ticks) s bytes can.0 can.1 can.2 can.3 h in
+      let w = loaded_comes laws.reads files cart keys (λ boot. ResumeWrites keep ticks (switched_on boot)) s bytes can.0 can.1 can.2 can.3 h in
       let to = can.4 in
       w.status ∙ ap status_at (laws.runs ticks (machine_booted can.0 can.1) w.end (At to.0) w.outs to.1 w.ran to.2).0
   done_then (AskList name proc set) s bytes can h =
@@ -421,27 +391,27 @@ module _ (laws : TopLaws) (files : List Named) where
 
 -- ---- the top call
 
-pub completes : {S : Type 0} → TopLaws → (c : Call S) (files : List Named) (words : List (List ℕ)) (asked : Asked) (named : List ℕ) (s : Status) → c.files ≡ Some files → HadNoFault c
+pub completes : TopLaws → (c : Call) (files : List Named) (words : List (List ℕ)) (asked : Asked) (named : List ℕ) (s : Status) → c.files ≡ Some files → HadNoFault c → (c.still → c.wrote [])
     → Asks words asked → CanBeDone files asked → Gives c words named s → (s ≡ statuses.Done) ⊎ (s ≡ statuses.NoMemory)
-completes laws c files words asked named s told none asks can (nothing never is still) = absurd (never asked asks)
-completes laws c files words asked named s told none asks can (command asked₂ asks₂ given) = elim (memory_or_not s) [
+completes laws c files words asked named s told none kept asks can (nothing never is still) = absurd (never asked asks)
+completes laws c files words asked named s told none kept asks can (command asked₂ asks₂ given) = elim (memory_or_not s) [
   | inl memory ↦ inr memory
   | inr ne ↦
       (let same = laws.words words asked₂ asked asks₂ asks in
-      let w = command_told c files told none asked named s ne (subst (λ (a : Asked). CommandGives c a named s) same given) in
+      let w = command_told c files told none kept asked named s ne (subst (λ (a : Asked). CommandGives c a named s) same given) in
       inl (done_then laws files asked s w.0 can w.1))
 ]
 
-pub answers_one : {S T : Type 0} → TopLaws → (c : Call S) (d : Call T) (files : List Named) (words : List (List ℕ)) (named named₂ : List ℕ) (s t : Status) → c.files ≡ Some files
-    → d.files ≡ Some files → HadNoFault c → HadNoFault d → s ≢ statuses.NoMemory → t ≢ statuses.NoMemory → Gives c words named s → Gives d words named₂ t
-    → (s ≡ t) × ((bytes : List ℕ) × Appended c.tells c.taken c.old c.new bytes × Appended d.tells d.taken d.old d.new bytes)
-answers_one laws c d files words named named₂ s t told told₂ none none₂ ne ne₂ (nothing never is still) (nothing never₂ is₂ still₂) =
-    (is ∙ sym is₂, ([], none_written c still.0, none_written d still₂.0))
-answers_one laws c d files words named named₂ s t told told₂ none none₂ ne ne₂ (nothing never is still) (command asked asks given) = absurd (never asked asks)
-answers_one laws c d files words named named₂ s t told told₂ none none₂ ne ne₂ (command asked asks given) (nothing never is still) = absurd (never asked asks)
-answers_one laws c d files words named named₂ s t told told₂ none none₂ ne ne₂ (command asked asks given) (command asked₂ asks₂ given₂) =
+pub answers_one : TopLaws → (c d : Call) (files : List Named) (words : List (List ℕ)) (named named₂ : List ℕ) (s t : Status) → c.files ≡ Some files
+    → d.files ≡ Some files → HadNoFault c → HadNoFault d → (c.still → c.wrote []) → (d.still → d.wrote []) → s ≢ statuses.NoMemory → t ≢ statuses.NoMemory → Gives c words named s → Gives d words named₂ t
+    → (s ≡ t) × ((bytes : List ℕ) × c.wrote bytes × d.wrote bytes)
+answers_one laws c d files words named named₂ s t told told₂ none none₂ kept kept₂ ne ne₂ (nothing never is still) (nothing never₂ is₂ still₂) =
+    (is ∙ sym is₂, ([], kept still.0, kept₂ still₂.0))
+answers_one laws c d files words named named₂ s t told told₂ none none₂ kept kept₂ ne ne₂ (nothing never is still) (command asked asks given) = absurd (never asked asks)
+answers_one laws c d files words named named₂ s t told told₂ none none₂ kept kept₂ ne ne₂ (command asked asks given) (nothing never is still) = absurd (never asked asks)
+answers_one laws c d files words named named₂ s t told told₂ none none₂ kept kept₂ ne ne₂ (command asked asks given) (command asked₂ asks₂ given₂) =
     let same = laws.words words asked₂ asked asks₂ asks in
-    let x = command_told c files told none asked named s ne given in
-    let y = command_told d files told₂ none₂ asked named₂ t ne₂ (subst (λ (a : Asked). CommandGives d a named₂ t) same given₂) in
+    let x = command_told c files told none kept asked named s ne given in
+    let y = command_told d files told₂ none₂ kept₂ asked named₂ t ne₂ (subst (λ (a : Asked). CommandGives d a named₂ t) same given₂) in
     let k = comes_one laws files asked s t x.0 y.0 x.1 y.1 in
-    (k.0, (x.0, x.2, subst (λ (bytes : List ℕ). Appended d.tells d.taken d.old d.new bytes) (sym k.1) y.2))
+    (k.0, (x.0, x.2, subst (λ (bytes : List ℕ). d.wrote bytes) (sym k.1) y.2))

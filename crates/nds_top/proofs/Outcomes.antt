@@ -1,17 +1,12 @@
-use Rattle.std.proofs.Common.{ℕ, ◌≡◌, ◌≢◌, ◌<◌, ◌≤◌, ◌⊎◌, inl, inr, nat_lt, if◌then◌else◌, Bool, true, false, List, [], length, Option, Some, None, option_map, refl, sym, ◌∙◌, ap, subst, arith}
-use Rattle.std.proofs.lemmas.Option.{none-some, same_Some}
-use Rattle.ds_base.specs.declared.keys.KeyLine.{KeyLine}
+use Rattle.nds_top.proofs.Words.{ℕ, ◌≡◌, ◌≢◌, ◌<◌, ◌≤◌, ◌⊎◌, inl, inr, nat_lt, Bool, List, [], length, Option, Some, None, option_map, refl, sym, ◌∙◌}
+use Rattle.nds_top.proofs.Words.{ap, subst, arith, none-some, same_Some, KeyLine, Named, file_of, machine_booted, MachineState, IsFirstBad, IsListing}
+use Rattle.nds_top.proofs.Words.{status_number, Status, Done, Usage, NoFile, ReadFault, WriteFault, TooLong, BadHeader, BadScript, LeftOut, BadText}
+use Rattle.nds_top.proofs.Words.{BadState, NoMemory, AreKeys, IsCart, IsFileRead, Refuses, RefusesCart, RefusesRun, cartridge, script, most_bytes}
+use Rattle.std.proofs.Common.{if◌then◌else◌, true, false}
 use Rattle.ds_header.specs.Rules.{fault_of}
 use Rattle.ds_header.specs.declared.faults.HeaderFault.{HeaderFault}
-use Rattle.ds_io.specs.Shelves.{Named, file_of}
-use Rattle.ds_machine.specs.Booted.{machine_booted}
-use Rattle.ds_machine.specs.States.{MachineState}
-use Rattle.asm_files.specs.Listings.{IsFirstBad, IsListing}
 use Rattle.nds_words.specs.Scripts.{IsFirstBadAt, IsScript}
-use Rattle.nds_answers.specs.Statuses.{status_number}
-use Rattle.nds_answers.specs.declared.statuses.Status.{Status}
-use Rattle.nds_answers.specs.declared.statuses.Status.TheVariants.{Done, Usage, NoFile, ReadFault, WriteFault, TooLong, BadHeader, BadScript, LeftOut, BadText, BadState, NoMemory}
-use Rattle.nds_answers.specs.Loads.{AreKeys, IsCart, IsFileRead, Refuses, RefusesCart, RefusesRun, RefusesScript, cartridge, script, most_bytes, most_script}
+use Rattle.nds_answers.specs.Loads.{RefusesScript, most_script}
 
 -- What comes of the files that are asked for, by what they are: a refusal, or their bytes.
 

@@ -1,15 +1,8 @@
-use Rattle.std.proofs.Common.{ℕ, ◌≡◌, ◌≢◌, List, [], Option, Some, Result, Ok, Err, refl, sym, ◌∙◌, ap, subst}
-use Rattle.std.proofs.lemmas.Option.{same_Some}
-use Rattle.sha2.specs.Sha256.{sha256}
-use Rattle.ds_base.specs.declared.keys.KeyLine.{KeyLine}
-use Rattle.ds_io.specs.Shelves.{Named, file_of}
-use Rattle.ds_machine.specs.States.{MachineState}
-use Rattle.run_ahead.specs.Consoles.{ConsoleState}
-use Rattle.run_ahead.specs.Saved.{read_state}
-use Rattle.nds_answers.specs.Loads.{AreKeys, IsCart, IsFileRead, RefusesFiles, most_state, run_files, state_file}
-use Rattle.nds_answers.specs.declared.statuses.Status.{Status}
-use Rattle.nds_answers.specs.declared.statuses.Status.TheVariants.{BadState, NoMemory}
-use Rattle.nds_plays.specs.States.{IsBadState, IsState}
+use Rattle.nds_top.proofs.Words.{ℕ, ◌≡◌, ◌≢◌, List, [], Option, Some, Ok, refl, sym, ◌∙◌, ap, subst, same_Some, sha256, KeyLine, Named, file_of}
+use Rattle.nds_top.proofs.Words.{MachineState, ConsoleState, read_state, AreKeys, IsCart, IsFileRead, RefusesFiles, Status, BadState, NoMemory}
+use Rattle.nds_top.proofs.Words.{IsBadState, IsState}
+use Rattle.std.proofs.Common.{Result, Err}
+use Rattle.nds_answers.specs.Loads.{most_state, run_files, state_file}
 use Rattle.nds_top.proofs.Outcomes.{IsOne, ReadLaws, RunComes, cart_one, keys_one, loaded_comes, not_both, read_fine, refusal, refused, run_comes_one, run_refused, same_file}
 
 -- What comes of the files of a run that goes on, by what they are.

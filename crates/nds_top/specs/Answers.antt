@@ -3,32 +3,34 @@ use Rattle.nds_words.specs.Words.{Asked, AskRun, AskList, AskAsm, AskTrace, AskP
 use Rattle.nds_answers.specs.Notes.{note_of}
 use Rattle.nds_answers.specs.declared.statuses.Status.{Status}
 use Rattle.nds_answers.specs.declared.statuses.Status.TheVariants.{Usage}
-use Rattle.nds_plays.specs.Calls.{Call, IsUntouched}
+use Rattle.nds_plays.specs.Calls.{Call, GivesBy, IsUntouched}
+use Rattle.nds_plays.specs.Watches.{peeked}
 use Rattle.nds_top.specs.ListingAnswers.{ListGives, AsmGives}
 use Rattle.nds_top.specs.RunAnswers.{RunGives}
-use Rattle.nds_top.specs.StateAnswers.{SaveGives, ResumeGives}
-use Rattle.nds_top.specs.ViewAnswers.{TraceGives, PeekGives, DemoGives}
+use Rattle.nds_top.specs.StateAnswers.{ResumeGives, SavedBy}
+use Rattle.nds_top.specs.ViewAnswers.{DemoGives, TracedBy, WroteAfter}
 
 -- When each answer of the top call comes, and what it leaves.
 
 -- when each answer to what is asked for comes, and of which file it speaks
-abbrev pub CommandGives : {S : Type 0} → Call S → Asked → List ℕ → Status → Type 0
+abbrev pub CommandGives : Call → Asked → List ℕ → Status → Type 0
 CommandGives c (AskRun cart keys ticks keep) named status = RunGives c cart keys ticks keep named status
 CommandGives c (AskList name proc set) named status = ListGives c name proc set status × (named ≡ name)
 CommandGives c (AskAsm name) named status = AsmGives c name status × (named ≡ name)
-CommandGives c (AskTrace cart keys ticks proc count) named status = TraceGives c cart keys ticks proc count named status
-CommandGives c (AskPeek cart keys ticks memory place count) named status = PeekGives c cart keys ticks memory place count named status
+CommandGives c (AskTrace cart keys ticks proc count) named status = GivesBy c cart keys (TracedBy c ticks proc count status) named status
+CommandGives c (AskPeek cart keys ticks memory place count) named status =
+    GivesBy c cart keys (WroteAfter c ticks (peeked memory place count) status) named status
 CommandGives c (AskDemo number ticks) named status = DemoGives c number ticks status
-CommandGives c (AskSave cart keys ticks) named status = SaveGives c cart keys ticks named status
+CommandGives c (AskSave cart keys ticks) named status = GivesBy c cart keys (SavedBy c ticks status) named status
 CommandGives c (AskResume state cart keys ticks keep) named status = ResumeGives c state cart keys ticks keep named status
 
 -- when each answer comes, and of which file it speaks: Usage exactly where the words ask for nothing
-pub data Gives {S : Type 0} (c : Call S) (words : List (List ℕ)) (named : List ℕ) (status : Status) : Type 0 where
+pub data Gives (c : Call) (words : List (List ℕ)) (named : List ℕ) (status : Status) : Type 0 where
   nothing : AskNothing words → status ≡ Usage → IsUntouched c → Gives c words named status
   command : (asked : Asked) → Asks words asked → CommandGives c asked named status → Gives c words named status
 
 -- the answer comes so, and its line, with the file of which it speaks, was to be taken so
-pub record Answered {S : Type 0} (c : Call S) (words : List (List ℕ)) (status : Status) (takes : List ℕ → Type 0) : Type 0 where
+pub record Answered (c : Call) (words : List (List ℕ)) (status : Status) (takes : List ℕ → Type 0) : Type 0 where
   pub named : List ℕ
   pub gives : Gives c words named status
   pub line : takes (note_of status named)

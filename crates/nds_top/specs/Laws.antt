@@ -1,6 +1,5 @@
 use Rattle.std.specs.Prelude.{ℕ, ◌≡◌, ◌≢◌, ◌⊎◌, Bool, List, Option, Some}
 use Rattle.ds_base.specs.declared.keys.KeyLine.{KeyLine}
-use Rattle.ds_io.specs.Faults.{Rose}
 use Rattle.ds_io.specs.Shelves.{Named, Told}
 use Rattle.ds_io.specs.Sinks.{Appended}
 use Rattle.ds_runs.specs.Runs.{At, Runs}
@@ -21,9 +20,9 @@ use Rattle.nds_top.specs.ViewAnswers.{demo_booted}
 -- What follows from when each answer of the top call comes, of calls without faults whose shelf tells its files.
 
 -- neither count of faults rose in a call, the shelf's or that of the output's sink
-pub record HadNoFault {S : Type 0} (c : Call S) : Type 0 where
-  pub shelf : ¬ Rose c.shelf_before c.shelf_after
-  pub out : ¬ Rose c.out_before c.out_after
+pub record HadNoFault (c : Call) : Type 0 where
+  pub shelf : ¬ c.shelf_rose
+  pub out : ¬ c.out_rose
 
 -- the reference run from a machine comes to a tick
 abbrev pub ComesTo : ℕ → MachineState → Type 0
@@ -55,7 +54,7 @@ abbrev pub IsComplete : {F S : Type 0} → (told : F → Option Told) → (shelf
     → (out_faults : S → ℕ) → Type 0
 IsComplete {F} {S} told shelf_faults tells taken out_faults =
     (shelf_old shelf_new : F) (old new : S) (seat : Option ConsoleState) (files : List Named) (words : List (List ℕ)) (asked : Asked)
-    (named : List ℕ) (status : Status) → (let c : Call S = around told shelf_faults tells taken out_faults shelf_old shelf_new old new seat in
+    (named : List ℕ) (status : Status) → (let c : Call = around told shelf_faults tells taken out_faults shelf_old shelf_new old new seat in
     c.files ≡ Some files → HadNoFault c → Asks words asked → CanBeDone files asked → Gives c words named status → (status ≡ Done)
     ⊎ (status ≡ NoMemory))
 
@@ -66,8 +65,8 @@ abbrev pub AnswersAreOne : {F S T : Type 0} → (told : F → Option Told) → (
 AnswersAreOne {F} {S} {T} told shelf_faults tells taken out_faults tells₂ taken₂ out_faults₂ =
     (shelf_old shelf_new shelf_old₂ shelf_new₂ : F) (old new : S) (old₂ new₂ : T)
     (seat seat₂ : Option ConsoleState) (files : List Named) (words : List (List ℕ)) (named named₂ : List ℕ) (status status₂ : Status) →
-    (let c : Call S = around told shelf_faults tells taken out_faults shelf_old shelf_new old new seat in
-    let d : Call T = around told shelf_faults tells₂ taken₂ out_faults₂ shelf_old₂ shelf_new₂ old₂ new₂ seat₂ in
+    (let c : Call = around told shelf_faults tells taken out_faults shelf_old shelf_new old new seat in
+    let d : Call = around told shelf_faults tells₂ taken₂ out_faults₂ shelf_old₂ shelf_new₂ old₂ new₂ seat₂ in
     c.files ≡ Some files → d.files ≡ Some files → HadNoFault c → HadNoFault d → status ≢ NoMemory → status₂ ≢ NoMemory → Gives c words named status
     → Gives d words named₂ status₂
     → (status ≡ status₂) × ((bytes : List ℕ) × Appended tells taken old new bytes × Appended tells₂ taken₂ old₂ new₂ bytes))

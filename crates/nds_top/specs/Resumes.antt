@@ -27,7 +27,7 @@ pub record HaveSameFiles (files : List Named) (cart : List ℕ) (keys : Option (
 
 -- what the call wrote that went on, and what the call wrote that ran the whole: the latter wrote first what is written while the run to the saved
 -- console runs, and then both wrote the output of the same run, each with the count of turns of its own
-pub record WroteTheRest {T U : Type 0} (d : Call T) (e : Call U) (first later : ℕ) (keep : Keep) (saved : List ℕ) (boot : MachineState) : Type 0 where
+pub record WroteTheRest (d e : Call) (first later : ℕ) (keep : Keep) (saved : List ℕ) (boot : MachineState) : Type 0 where
   -- the console that was saved, and the run to it
   pub middle : ConsoleState
   pub is : saved ≡ saved_state middle
@@ -42,9 +42,9 @@ pub record WroteTheRest {T U : Type 0} (d : Call T) (e : Call U) (first later : 
   pub whole : ConsoleState
   pub turns : TurnsToEnd later middle end resumed
   pub all_turns : TurnsToEnd later (switched_on boot) end whole
-  pub wrote_rest : Appended d.tells d.taken d.old d.new (output_of later resumed.turns keep (latest_of middle.machine) end rest)
+  pub wrote_rest : d.wrote (output_of later resumed.turns keep (latest_of middle.machine) end rest)
   pub wrote_whole :
-      Appended e.tells e.taken e.old e.new (shown_while keep front ++ output_of later whole.turns keep (latest_of middle.machine) end rest)
+      e.wrote (shown_while keep front ++ output_of later whole.turns keep (latest_of middle.machine) end rest)
 
 -- a call that goes on from these bytes to a later tick, and one that runs the whole to it, with the same cartridge and key script: without faults and
 -- want of memory they have one status, and wrote the same but for that
@@ -56,8 +56,8 @@ GoesOnFrom {F} {T} {U} told shelf_faults tells taken out_faults tells₂ taken�
     (shelf_old shelf_new shelf_old₂ shelf_new₂ : F) (old new : T) (old₂ new₂ : U) (seat seat₂ : Option ConsoleState) (files₂ files₃ : List Named)
     (words words₂ : List (List ℕ)) (state cart₂ cart₃ : List ℕ) (keys₂ keys₃ : Option (List ℕ)) (later : ℕ) (keep : Keep) (named named₂ : List ℕ)
     (status status₂ : Status) →
-    (let d : Call T = around told shelf_faults tells taken out_faults shelf_old shelf_new old new seat in
-    let e : Call U = around told shelf_faults tells₂ taken₂ out_faults₂ shelf_old₂ shelf_new₂ old₂ new₂ seat₂ in
+    (let d : Call = around told shelf_faults tells taken out_faults shelf_old shelf_new old new seat in
+    let e : Call = around told shelf_faults tells₂ taken₂ out_faults₂ shelf_old₂ shelf_new₂ old₂ new₂ seat₂ in
     d.files ≡ Some files₂ → e.files ≡ Some files₃ → HadNoFault d → HadNoFault e
     → Asks words (AskResume state cart₂ keys₂ later keep) → Asks words₂ (AskRun cart₃ keys₃ later keep) → first < later
     → file_of files₂ state ≡ Some saved
@@ -73,7 +73,7 @@ abbrev pub ResumesGoOn : {F S T U : Type 0} → (told : F → Option Told) → (
 ResumesGoOn {F} {S} {T} {U} told shelf_faults tells taken out_faults tells₂ taken₂ out_faults₂ tells₃ taken₃ out_faults₃ =
     (shelf_old shelf_new : F) (old new : S) (seat : Option ConsoleState) (files : List Named) (words : List (List ℕ)) (cart : List ℕ)
     (keys : Option (List ℕ)) (first : ℕ) (named : List ℕ) →
-    (let c : Call S = around told shelf_faults tells taken out_faults shelf_old shelf_new old new seat in
+    (let c : Call = around told shelf_faults tells taken out_faults shelf_old shelf_new old new seat in
     c.files ≡ Some files → Asks words (AskSave cart keys first) → Gives c words named Done
     → (saved : List ℕ) × Appended tells taken old new saved
     × GoesOnFrom told shelf_faults tells₂ taken₂ out_faults₂ tells₃ taken₃ out_faults₃ files cart keys first saved)

@@ -5,7 +5,7 @@ ghost use Rattle.std.specs.String.{string_bytes};
 ghost use Rattle.ds_io.specs.Shelves.{files_of};
 ghost use Rattle.nds_plays.specs.Calls.{around};
 ghost use Rattle.nds_top.specs.Answers.{Answered, CommandGives};
-ghost use Rattle.nds_words.specs.Commands.{asked_by};
+ghost use Rattle.nds_words.specs.CommandLaws.{asked_by};
 ghost use Rattle.nds_answers.specs.Notes.{Noted};
 ghost use Rattle.nds_words.specs.Words.{IsAllowed};
 

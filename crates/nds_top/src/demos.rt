@@ -5,7 +5,7 @@ ghost use Rattle.nds_plays.specs.Calls.{around};
 ghost use Rattle.nds_top.specs.ViewAnswers.{DemoGives};
 
 use crate::statuses::status_of;
-use ds_base::{Keys, Tick};
+use ds_base::{Keys, Tick, known};
 use ds_header::Cart;
 use ds_io::{Shelf, Sink};
 use nds_answers::Status;
@@ -36,7 +36,7 @@ pub fn demo<F: Shelf, O: Sink>(
         return Status::NoMemory;
     };
     let Some(console) = seat else { unreachable!() };
-    turn_laws();
+    known!(turn_laws());
     let played = nds_plays::demo(console, number, Tick(ticks), out);
     status_of(played)
 }

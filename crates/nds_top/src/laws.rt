@@ -4,6 +4,7 @@ ghost use Rattle.nds_top.specs.Laws.{AnswersAreOne, IsComplete};
 ghost use Rattle.nds_top.specs.Resumes.{ResumesGoOn};
 
 use asm_files::listing_laws;
+use ds_base::known;
 use ds_io::{Shelf, Sink};
 use ds_machine::{time_laws, touch_laws};
 use nds_plays::{cut_laws, trace_laws};
@@ -24,11 +25,11 @@ pub fn top_laws<F: Shelf, O: Sink, P: Sink, Q: Sink>()
     word_laws();
     script_laws();
     listing_laws();
-    reference_laws();
-    turn_laws();
-    trace_laws();
-    time_laws();
-    touch_laws();
-    state_laws();
-    cut_laws();
+    known!(reference_laws());
+    known!(turn_laws());
+    known!(trace_laws());
+    known!(time_laws());
+    known!(touch_laws());
+    known!(state_laws());
+    known!(cut_laws());
 }

@@ -4,10 +4,11 @@ ghost use Rattle.std.specs.Prelude.{◌≡◌, ◌≤◌, ◌+◌, None, option_
 ghost use Rattle.ds_base.specs.Memories.{memory_size};
 ghost use Rattle.ds_io.specs.Shelves.{files_of};
 ghost use Rattle.nds_plays.specs.Calls.{around};
-ghost use Rattle.nds_top.specs.ViewAnswers.{PeekGives};
+ghost use Rattle.nds_words.specs.Words.{AskPeek};
+ghost use Rattle.nds_top.specs.Answers.{CommandGives};
 
 use crate::statuses::status_of;
-use ds_base::{Memory, Tick};
+use ds_base::{Memory, Tick, known};
 use ds_io::{Shelf, Sink};
 use nds_answers::Ended;
 use nds_plays::seat_run;
@@ -31,15 +32,15 @@ pub fn peek<'a, F: Shelf, O: Sink>(
     requires few { count ≤ 4096 }
     requires within { place + count ≤ memory_size memory }
     requires empty { seat.old ≡ None }
-    ensures answer { PeekGives (around F.told F.faults O.tells O.taken O.faults shelf.old shelf.new out.old out.new seat.new) files.entry.cart.now
-        (option_map (λ name. name.now) files.entry.keys) ticks memory place count result.file.now result.status }
+    ensures answer { CommandGives (around F.told F.faults O.tells O.taken O.faults shelf.old shelf.new out.old out.new seat.new)
+        (AskPeek files.entry.cart.now (option_map (λ name. name.now) files.entry.keys) ticks memory place count) result.file.now result.status }
     ensures files { files_of (F.told shelf.new) ≡ files_of (F.told shelf.old) }
 {
     if let Err(ended) = seat_run(alloc, files.cart, files.keys, shelf, seat) {
         return ended;
     }
     let Some(console) = seat else { unreachable!() };
-    turn_laws();
+    known!(turn_laws());
     let played = nds_plays::peek(console, Tick(ticks), memory, place, count, out);
     let (status, file) = (status_of(played), files.cart);
     Ended { status, file }

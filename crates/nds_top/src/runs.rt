@@ -6,7 +6,7 @@ ghost use Rattle.nds_plays.specs.Calls.{around};
 ghost use Rattle.nds_top.specs.RunAnswers.{RunGives};
 ghost use Rattle.nds_top.specs.Inside.{RunsSo};
 
-use ds_base::Tick;
+use ds_base::{Tick, known};
 use ds_io::{Shelf, Sink};
 use nds_answers::{Ended, Status};
 use nds_plays::{Played, play, seat_run};
@@ -34,7 +34,7 @@ pub fn run<'a, F: Shelf, O: Sink>(
         return ended;
     }
     let Some(console) = seat else { unreachable!() };
-    turn_laws();
+    known!(turn_laws());
     let status = run_seated(console, ticks, keep, out);
     let file = files.cart;
     Ended { status, file }

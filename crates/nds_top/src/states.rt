@@ -3,11 +3,13 @@
 ghost use Rattle.std.specs.Prelude.{◌≡◌, ◌≤◌, None, option_map};
 ghost use Rattle.ds_io.specs.Shelves.{files_of};
 ghost use Rattle.nds_plays.specs.Calls.{around};
-ghost use Rattle.nds_top.specs.StateAnswers.{ResumeGives, SaveGives};
+ghost use Rattle.nds_words.specs.Words.{AskSave};
+ghost use Rattle.nds_top.specs.Answers.{CommandGives};
+ghost use Rattle.nds_top.specs.StateAnswers.{ResumeGives};
 
 use crate::runs::run_seated;
 use crate::statuses::status_of;
-use ds_base::Tick;
+use ds_base::{Tick, known};
 use ds_io::{Shelf, Sink};
 use nds_answers::{Ended, Status};
 use nds_plays::{clear_seat, seat_resumed, seat_run};
@@ -27,15 +29,15 @@ pub fn save<'a, F: Shelf, O: Sink>(
 ) -> Ended<'a>
     requires early { ticks ≤ 100000000000 }
     requires empty { seat.old ≡ None }
-    ensures answer { SaveGives (around F.told F.faults O.tells O.taken O.faults shelf.old shelf.new out.old out.new seat.new) files.entry.cart.now
-        (option_map (λ name. name.now) files.entry.keys) ticks result.file.now result.status }
+    ensures answer { CommandGives (around F.told F.faults O.tells O.taken O.faults shelf.old shelf.new out.old out.new seat.new)
+        (AskSave files.entry.cart.now (option_map (λ name. name.now) files.entry.keys) ticks) result.file.now result.status }
     ensures files { files_of (F.told shelf.new) ≡ files_of (F.told shelf.old) }
 {
     if let Err(ended) = seat_run(alloc, files.cart, files.keys, shelf, seat) {
         return ended;
     }
     let Some(console) = seat else { unreachable!() };
-    turn_laws();
+    known!(turn_laws());
     let file = files.cart;
     let Ok(played) = nds_plays::save(alloc, console, Tick(ticks), out) else {
         clear_seat(seat);
@@ -68,7 +70,7 @@ pub fn resume<'a, F: Shelf, O: Sink>(
         return ended;
     }
     let Some(console) = seat else { unreachable!() };
-    turn_laws();
+    known!(turn_laws());
     let status = run_seated(console, ticks, keep, out);
     let file = files.cart;
     Ended { status, file }

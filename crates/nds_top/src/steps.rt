@@ -3,7 +3,8 @@
 ghost use Rattle.std.specs.Prelude.{◌≡◌, ◌≤◌, None, option_map};
 ghost use Rattle.ds_io.specs.Shelves.{files_of};
 ghost use Rattle.nds_plays.specs.Calls.{around};
-ghost use Rattle.nds_top.specs.ViewAnswers.{TraceGives};
+ghost use Rattle.nds_words.specs.Words.{AskTrace};
+ghost use Rattle.nds_top.specs.Answers.{CommandGives};
 
 use crate::statuses::status_of;
 use ds_base::{Proc, Tick};
@@ -25,8 +26,8 @@ pub fn trace<'a, F: Shelf, O: Sink>(
     out: &mut O,
 ) -> Ended<'a>
     requires { ticks ≤ 100000000000 }
-    ensures answer { TraceGives (around F.told F.faults O.tells O.taken O.faults shelf.old shelf.new out.old out.new None) files.entry.cart.now
-        (option_map (λ name. name.now) files.entry.keys) ticks proc count result.file.now result.status }
+    ensures answer { CommandGives (around F.told F.faults O.tells O.taken O.faults shelf.old shelf.new out.old out.new None)
+        (AskTrace files.entry.cart.now (option_map (λ name. name.now) files.entry.keys) ticks proc count) result.file.now result.status }
     ensures files { files_of (F.told shelf.new) ≡ files_of (F.told shelf.old) }
 {
     let mut seat = empty_seat();
@@ -48,8 +49,8 @@ fn trace_seated<'a, F: Shelf, O: Sink>(
 ) -> Ended<'a>
     requires early { ticks ≤ 100000000000 }
     requires empty { seat.old ≡ None }
-    ensures answer { TraceGives (around F.told F.faults O.tells O.taken O.faults shelf.old shelf.new out.old out.new None) files.entry.cart.now
-        (option_map (λ name. name.now) files.entry.keys) ticks proc count result.file.now result.status }
+    ensures answer { CommandGives (around F.told F.faults O.tells O.taken O.faults shelf.old shelf.new out.old out.new None)
+        (AskTrace files.entry.cart.now (option_map (λ name. name.now) files.entry.keys) ticks proc count) result.file.now result.status }
     ensures files { files_of (F.told shelf.new) ≡ files_of (F.told shelf.old) }
 {
     if let Err(ended) = seat_run(alloc, files.cart, files.keys, shelf, seat) {

@@ -40,14 +40,6 @@ fails_any P (Err most) f = f most
 step_true : (a b : ℕ) (x y : ℕ) → (a == b) ≡ true → (if a == b then x else y) ≡ x
 step_true a b x y e = rw e refl
 
-pub common_piece : (piece text : List ℕ) → common piece text ≤ length piece
-common_piece [] text = omega arith
-common_piece (p ∷ piece) [] = omega arith
-common_piece (p ∷ piece) (b ∷ text) = one (cases_Bool (p == b)) (common_piece piece text) where
-  one : ((p == b) ≡ true) ⊎ ((p == b) ≡ false) → common piece text ≤ length piece → common (p ∷ piece) (b ∷ text) ≤ length (p ∷ piece)
-  one (inl e) h = rw e (omega arith)
-  one (inr e) h = rw e (omega arith)
-
 pub common_text : (piece text : List ℕ) → common piece text ≤ length text
 common_text [] text = omega arith
 common_text (p ∷ piece) [] = omega arith

@@ -1,4 +1,4 @@
-pub mod Commands
+pub mod CommandLaws
 pub mod Inside
 pub mod Words
 pub mod Reader

@@ -4,7 +4,7 @@ ghost use Rattle.std.specs.Prelude.{◌≡◌, ◌<◌, ◌↔◌, ℕ, List, Op
 ghost use Rattle.std.specs.String.{string_bytes};
 ghost use Rattle.nds_words.specs.Words.{IsName, IsScriptName, Asks, AskNothing, keys_word};
 ghost use Rattle.nds_words.specs.Inside.{AreOf, AskForRun};
-ghost use Rattle.nds_words.specs.Commands.{asked_by};
+ghost use Rattle.nds_words.specs.CommandLaws.{asked_by};
 
 use crate::choices::{image_of_word, keep_of, memory_of, proc_of};
 use crate::commands::{Command, RunFiles};

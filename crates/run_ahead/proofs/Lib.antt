@@ -1,3 +1,4 @@
+mod Words
 pub mod LoadedMachine
 pub mod RunningOn
 pub mod SavedStates

@@ -1,10 +1,7 @@
-use Rattle.std.proofs.Common.{ℕ, ◌≡◌, ◌<◌, List, Option, Some, None, sym, ◌∙◌, ap, subst}
+use Rattle.run_ahead.proofs.Words.{ℕ, ◌≡◌, ◌<◌, List, Option, Some, None, sym, ◌∙◌, ap, subst, Proc, MachineState, ProcessorState, with_file}
+use Rattle.run_ahead.proofs.Words.{processor_of, HasLimit, limit_put}
 use Rattle.std.specs.Prelude.{IfSome}
-use Rattle.ds_base.specs.declared.processors.Proc.{Proc}
-use Rattle.ds_machine.specs.States.{MachineState, ProcessorState, with_file}
-use Rattle.ds_machine.specs.Steps.{processor_of}
-use Rattle.ds_machine.specs.TurnSteps.{HasLimit}
-use Rattle.ds_machine.proofs.Files.{limit_put, own_put}
+use Rattle.ds_machine.proofs.Files.{own_put}
 
 -- What is answered of a machine is so of it with its cartridge's file: `now` is the one with it.
 

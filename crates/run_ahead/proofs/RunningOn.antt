@@ -1,7 +1,5 @@
-use Rattle.std.proofs.Common.{ℕ, ◌≡◌, ◌+◌, [], max, refl, sym, ◌∙◌, ap, subst, arith}
-use Rattle.ds_machine.specs.Frames.{last_frame, last_lists}
-use Rattle.run_ahead.specs.Consoles.{ConsoleState}
-use Rattle.run_ahead.specs.Turns.{Turns, GoesOn, RanOn, run_to, one_more_turn, counted_of, turns_in, HasTurned, no_turn, one_turn}
+use Rattle.run_ahead.proofs.Words.{ℕ, ◌≡◌, ◌+◌, [], max, refl, sym, ◌∙◌, ap, subst, arith, last_frame, last_lists, ConsoleState, Turns, run_to}
+use Rattle.run_ahead.proofs.Words.{one_more_turn, counted_of, turns_in, HasTurned, no_turn, one_turn, GoesOn, RanOn}
 use Rattle.run_ahead.specs.declared.turns.Turned as turned
 use Rattle.run_ahead.specs.declared.turns.Turned.TheVariants as answers
 use Rattle.run_ahead.proofs.TurnLaws.{turns_add_up}

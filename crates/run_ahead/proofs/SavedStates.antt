@@ -1,25 +1,20 @@
-use Rattle.std.proofs.Common.{rules, bytes_eq, ℕ, suc, ◌≡◌, ◌+◌, ◌*◌, ◌≤◌, ◌<◌, ◌^◌, true, List, [], ◌∷◌, ◌++◌, length, None, Result, Ok, Err, refl, sym, ◌∙◌, ap, subst}
+use Rattle.run_ahead.proofs.Words.{rules, ℕ, suc, ◌≡◌, ◌+◌, ◌*◌, ◌≤◌, ◌<◌, ◌^◌, true, List, [], ◌∷◌, ◌++◌, length, None, Ok, Err, refl, sym, ◌∙◌, ap}
+use Rattle.run_ahead.proofs.Words.{subst, slice_index, bytes_written, Left, ReadAnswer, ◌>>=◌, read_format, Unpacked, HasMachineBounds, dues_of}
+use Rattle.run_ahead.proofs.Words.{IsSound, MachineState, counts_of, IsWithinTick, IsOver, ConsoleState, head_format, FailsState, IsReadBack}
+use Rattle.run_ahead.proofs.Words.{console_of, format_behind, head_of, read_console, read_state, state_bytes}
+use Rattle.std.proofs.Common.{bytes_eq, Result}
 use Rattle.std.proofs.lemmas.List.{append-nil}
 use Rattle.std.proofs.lemmas.Slice.Eq.{bytes_eq-Decides}
 use Rattle.std.proofs.lemmas.Bool.{eqb-true}
-use Rattle.std.specs.Prelude.{IsErrAnd, slice_index}
+use Rattle.std.specs.Prelude.{IsErrAnd}
 use Rattle.ds_base.specs.declared.keys.KeyLine.{KeyLine}
 use Rattle.ds_state.proofs.Exact.{one_spelling, round_trips}
 use Rattle.ds_state.proofs.Written.{written_after}
-use Rattle.ds_state.specs.Formats.{bytes_written}
-use Rattle.ds_state.specs.Laws.{IsExact, RoundTrips, StandsFor}
-use Rattle.ds_state.specs.Reading.{Left, ReadAnswer, ◌>>=◌, read_format}
+use Rattle.ds_state.proofs.Standing.{IsExact, StandsFor}
+use Rattle.ds_state.specs.FormatLaws.{RoundTrips}
 use Rattle.ds_machine.specs.Saved.{MachinesAreSaved, script_from}
-use Rattle.ds_state.specs.declared.unpacker.Unpacked.{Unpacked}
-use Rattle.ds_machine.specs.Back.{HasMachineBounds, MachinesComeBack}
-use Rattle.ds_machine.specs.Reference.{dues_of}
-use Rattle.ds_machine.specs.Sound.{IsSound}
-use Rattle.ds_machine.specs.States.{MachineState, counts_of}
-use Rattle.ds_machine.specs.Within.{IsWithinTick}
-use Rattle.ds_runs.specs.Runs.{IsOver}
-use Rattle.run_ahead.specs.Consoles.{ConsoleState}
-use Rattle.run_ahead.specs.Heads.{head_format}
-use Rattle.run_ahead.specs.Saved.{FailsState, GivesState, IsReadBack, StatesHaveOneSpelling, console_of, format_behind, head_of, read_console, read_state, read_whole, state_bytes, where_whole}
+use Rattle.ds_machine.specs.Back.{MachinesComeBack}
+use Rattle.run_ahead.specs.Saved.{GivesState, StatesHaveOneSpelling, read_whole, where_whole}
 use Rattle.run_ahead.specs.declared.heads.Head.{Head}
 
 -- A console in bytes: they are read back as it, and no others are read as it.
@@ -111,7 +106,7 @@ bytes_behind : (front rest : List ℕ) → ((i : ℕ) → slice_index (front ++ 
 bytes_behind [] rest are = are
 bytes_behind (b ∷ front) rest are = bytes_behind front rest (λ i. are (suc i))
 
-abbrev IsGood : {A : Type 0} → Result A ℕ → Type 0
+abbrev pub IsGood : {A : Type 0} → Result A ℕ → Type 0
 IsGood (Ok a) = Unit {0}
 IsGood (Err e) = ⊥
 
@@ -153,9 +148,10 @@ left_over digest limit file keys l rest more head s from_0 one two some =
     rw (start, one, two) (where_left (console_of head s) more.place more.bytes some)
 
 -- an error that is handed on says what it said
-pub hands_on : (r : Result ConsoleState Unpacked) (e : Unpacked) (read : Result ConsoleState ℕ) → IsErrAnd r (λ x. x ≡ e) → FailsState e read → GivesState (λ (k : ConsoleState). k) r read
-hands_on (Ok k) e read is fails = absurd is
-hands_on (Err x) e read is fails = subst (λ (y : Unpacked). FailsState y read) (sym is) fails
+pub hands_on : {X : Type 0} (view : X → ConsoleState) (r : Result X Unpacked) (e : Unpacked) (read : Result ConsoleState ℕ) → IsErrAnd r (λ x. x ≡ e) → FailsState e read
+    → GivesState view r read
+hands_on view (Ok k) e read is fails = absurd is
+hands_on view (Err x) e read is fails = subst (λ (y : Unpacked). FailsState y read) (sym is) fails
 
 -- two parts, one behind the other, and nothing is left over
 joined : (bytes front own behind_front behind_own whole : List ℕ) → bytes ≡ front ++ behind_front → behind_front ≡ own ++ behind_own → behind_own ≡ [] → whole ≡ front ++ own → bytes ≡ whole

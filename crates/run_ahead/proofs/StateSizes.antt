@@ -1,4 +1,8 @@
-use Rattle.std.proofs.Common.{rules, ℕ, zero, suc, ◌≡◌, ◌+◌, ◌-◌, ◌*◌, ◌≤◌, ◌==◌, ◌&&◌, ◌||◌, not, Bool, true, false, List, length, nat_le, Option, Some, None, Ok, ◌∙◌, ap, arith}
+use Rattle.run_ahead.proofs.Words.{rules, ℕ, zero, suc, ◌≡◌, ◌+◌, ◌-◌, ◌*◌, ◌≤◌, ◌==◌, ◌&&◌, ◌||◌, not, Bool, true, false, List, [], ◌∷◌, length}
+use Rattle.run_ahead.proofs.Words.{Option, Some, None, Ok, sym, ◌∙◌, ap, subst, arith, Proc, Nine, Seven, Format, done, then_field, then_part, list}
+use Rattle.run_ahead.proofs.Words.{code_width, Left, ◌>>=◌, read_format, head_format, ConsoleState, console_of, format_behind, read_console}
+use Rattle.run_ahead.proofs.Words.{read_state}
+use Rattle.std.proofs.Common.{nat_le}
 use Rattle.std.proofs.lemmas.Bool.{and_parts}
 use Rattle.arm_core.specs.Saved.{registers_format}
 use Rattle.cp15_tcm.specs.Saved.{cp15_format}
@@ -7,14 +11,11 @@ use Rattle.ds_base.specs.declared.memories.Width.{Width}
 use Rattle.ds_base.specs.declared.memories.Width.TheVariants.{Byte, Half, Word}
 use Rattle.ds_base.specs.declared.processors.Arch.{Arch}
 use Rattle.ds_base.specs.declared.processors.Arch.TheVariants.{V4, V5}
-use Rattle.ds_base.specs.declared.processors.Proc.{Proc}
-use Rattle.ds_base.specs.declared.processors.Proc.TheVariants.{Nine, Seven}
 use Rattle.ds_card.specs.Saved.{card_format}
 use Rattle.ds_dma.specs.Saved.{channel_format_by, dma_format_by}
 use Rattle.ds_ipc.specs.Saved.{ipc_format, side_format}
 use Rattle.ds_math.specs.Saved.{divider_format, root_format}
-use Rattle.ds_state.specs.Formats.{Format, done, then_field, then_part, list, code_width, word_format, signed_format}
-use Rattle.ds_state.specs.Reading.{Left, ◌>>=◌, read_format}
+use Rattle.ds_state.specs.Formats.{word_format, signed_format}
 use Rattle.ds_timers.specs.Saved.{irq_format_by, timer_format, timers_format}
 use Rattle.ds_machine.specs.Saved.{Around, channels_format, machine_format_by, memories_format, processor_format, processors_format, saved_size, units_format}
 use Rattle.gx_fifo.specs.Saved.{count_by, entry_format, gx_format_by, holds_by}
@@ -22,16 +23,15 @@ use Rattle.gx_fifo.specs.declared.gx.saved.Asked.{Asked}
 use Rattle.gx_geometry.specs.Saved.{current_format, geometry_format, holds_recent, light_format, lighting_format, lists_format, polygon_format, results_format, unless_none, vertex_format}
 use Rattle.gx_geometry.specs.Bounds.{is_place}
 use Rattle.gx_matrix.specs.Saved.{matrix_format, stacks_format}
-use Rattle.video2d.specs.DisplayRegisters.{engine_bytes, engine_row_at}
+use Rattle.video2d.specs.DisplayRegisters.{display_row, engine_bytes, engine_registers}
+use Rattle.video2d.specs.declared.display_registers.DisplayRegister.{DisplayRegister}
 use Rattle.video2d.specs.declared.display_registers.DisplayRow.{DisplayRow}
 use Rattle.video2d.specs.declared.engines.Engine.{Engine}
 use Rattle.video2d.specs.declared.engines.Engine.TheVariants.{A, B}
-use Rattle.video2d.specs.Saved.{frame_format, frame_pixels, pixel_format, point_format, ports_format, register_if, registers_from, row_width, video_format}
+use Rattle.video2d.specs.Saved.{frame_format, frame_pixels, pixel_format, point_format, ports_format, row_format, row_width, rows_format, video_format}
 use Rattle.vram_banks.specs.Saved.{banks_format, banks_size}
-use Rattle.run_ahead.specs.Heads.{head_format}
-use Rattle.run_ahead.specs.Consoles.{ConsoleState}
-use Rattle.run_ahead.specs.Saved.{StatesAreShort, console_of, format_behind, read_console, read_state}
-use Rattle.run_ahead.proofs.FewBytes.{ReadsFew, reads_few}
+use Rattle.run_ahead.specs.Saved.{StatesAreShort}
+use Rattle.run_ahead.proofs.FewBytes.{ReadsFew, ◌⨾◌, reads_few}
 use Rattle.run_ahead.proofs.SavedStates.{all_was_read, bound, ok_same}
 
 -- How many bytes each part of a saved console has at most.
@@ -49,502 +49,192 @@ open_few first second third at n kept = most n 6144 (and_parts (nat_le n 6144) (
 entries_few : (asked : Asked) (selector at n : ℕ) → count_by asked selector at n ≡ true → n ≤ 324
 entries_few asked selector at n kept = most n 324 (and_parts (holds_by asked selector n) (nat_le n 324) kept).1
 
--- what reads so many reads no more than any greater number
-rises : {S A : Type 0} (f : Format S A) (at n m : ℕ) → n ≤ m → ReadsFew f at n → ReadsFew f at m
-rises (done a) at n m le few = tt
-rises (then_field c get rule next) at n m le few =
-    let width = few.0 in (omega (arith, le, width), λ v kept. rises (next v) at (n - code_width c) (m - code_width c) (omega (arith, le)) (few.1 v kept))
-rises (then_part f get next) at n m le few = let own = few.2 in (few.0, few.1, omega (arith, le, own), λ t. rises (next t) at (n - few.0) (m - few.0) (omega (arith, le)) (few.3 t))
-rises (list k f get next) at n m le few =
-    let own = few.2 in (few.0, few.1, omega (arith, le, own), λ ts. rises (next ts) at (n - k * few.0) (m - k * few.0) (omega (arith, le)) (few.3 ts))
-
 module _ (at : ℕ) where
-  few_word : ReadsFew word_format at 4
+  few_word : ReadsFew at 4 0 word_format
   few_word = search rules
 
-  few_signed : ReadsFew signed_format at 4
+  few_signed : ReadsFew at 4 0 signed_format
   few_signed = search rules
 
-  few_cp15 : ReadsFew cp15_format at 12
+  few_cp15 : ReadsFew at 12 0 cp15_format
   unfolding cp15_format
   few_cp15 = search rules
 
-  few_registers : (arch : Arch) → ReadsFew (registers_format arch) at 148
+  few_registers : (arch : Arch) → ReadsFew at 148 0 (registers_format arch)
   unfolding registers_format
-  few_registers arch = (4, few_word, omega arith, λ general. search rules)
+  few_registers arch = (4, few_word) ⨾ λ general. search rules
 
-  few_vertex : ReadsFew vertex_format at 22
+  few_vertex : ReadsFew at 22 0 vertex_format
   unfolding vertex_format
   few_vertex = search rules
 
-  few_polygon : ReadsFew polygon_format at 25
+  few_polygon : ReadsFew at 25 0 polygon_format
   unfolding polygon_format
   few_polygon = search rules
 
-  few_irq : (proc : Proc) (asleep : Bool) → ReadsFew (irq_format_by proc asleep) at 9
+  few_irq : (proc : Proc) (asleep : Bool) → ReadsFew at 9 0 (irq_format_by proc asleep)
   unfolding irq_format_by
   few_irq proc asleep = search rules
 
-  few_timer : (which : ℕ) → ReadsFew (timer_format which) at 13
+  few_timer : (which : ℕ) → ReadsFew at 13 0 (timer_format which)
   unfolding timer_format
   few_timer which = search rules
 
-  few_timers : ReadsFew timers_format at 52
+  few_timers : ReadsFew at 52 0 timers_format
   unfolding timers_format
-  few_timers = (13, few_timer 0, omega arith, λ zero. (13, few_timer 1, omega arith, λ one. (13, few_timer 2, omega arith, λ two. (13, few_timer 3, omega arith, λ three. tt))))
+  few_timers = (13, few_timer 0) ⨾ λ zero. (13, few_timer 1) ⨾ λ one. (13, few_timer 2) ⨾ λ two. (13, few_timer 3) ⨾ λ three. omega arith
 
-  few_divider : ReadsFew divider_format at 41
+  few_divider : ReadsFew at 41 0 divider_format
   unfolding divider_format
   few_divider = search rules
 
-  few_root : ReadsFew root_format at 21
+  few_root : ReadsFew at 21 0 root_format
   unfolding root_format
   few_root = search rules
 
-  few_side : ReadsFew side_format at 73
+  few_side : ReadsFew at 73 0 side_format
   unfolding side_format
-  few_side = (
-    omega arith,
-    λ passed _. (
-      omega arith,
-      λ raises _. (
-        omega arith,
-        λ control _. (
-          omega arith,
-          λ last _. (
-            omega arith,
-            λ count kept. (let le : count ≤ 16 = most count 16 kept in (4, few_word, omega (arith, le), λ words. tt)),
-          ),
-        ),
-      ),
-    ),
-  )
+  few_side = λ passed _ raises _ control _ last _ count kept. (let le = most count 16 kept in (4, few_word) ⨾ λ words. omega (arith, le))
 
-  few_ipc : ReadsFew ipc_format at 146
+  few_ipc : ReadsFew at 146 0 ipc_format
   unfolding ipc_format
-  few_ipc = (73, few_side, omega arith, λ nine. (73, few_side, omega arith, λ seven. tt))
+  few_ipc = (73, few_side) ⨾ λ nine. (73, few_side) ⨾ λ seven. omega arith
 
-  few_channel : (proc : Proc) (which : ℕ) (must : Bool) → ReadsFew (channel_format_by proc which must) at 37
+  few_channel : (proc : Proc) (which : ℕ) (must : Bool) → ReadsFew at 37 0 (channel_format_by proc which must)
   unfolding channel_format_by
   few_channel proc which must = search rules
 
-  few_dma : (proc : Proc) (late : Bool) → ReadsFew (dma_format_by proc late) at 160
+  few_dma : (proc : Proc) (late : Bool) → ReadsFew at 160 0 (dma_format_by proc late)
   unfolding dma_format_by
-  few_dma proc late = (
-    37,
-    few_channel proc 0 false,
-    omega arith,
-    λ zero. (
-      37,
-      few_channel proc 1 false,
-      omega arith,
-      λ one. (
-        37,
-        few_channel proc 2 false,
-        omega arith,
-        λ two. (
-          37,
-          few_channel proc 3 _,
-          omega arith,
-          λ three. search rules,
-        ),
-      ),
-    ),
-  )
+  few_dma proc late =
+      (37, few_channel proc 0 false) ⨾ λ zero. (37, few_channel proc 1 false) ⨾ λ one. (37, few_channel proc 2 false) ⨾ λ two. (37, few_channel proc 3 _) ⨾ λ three. search rules
 
-  few_card : (file : List ℕ) → ReadsFew (card_format file) at 29
+  few_card : (file : List ℕ) → ReadsFew at 29 0 (card_format file)
   unfolding card_format
   few_card file = search rules
 
-  -- ---- the display
+  -- ---- the display: rows have their registers' widths
 
-  width_few : (width : Width) → width_bytes width ≤ 4
-  width_few Byte = omega arith
-  width_few Half = omega arith
-  width_few Word = omega arith
+  abbrev width_of : DisplayRow → ℕ
+  width_of row = width_bytes (row_width row)
 
-  few_register : (row : Option DisplayRow) (offset : ℕ) (made : List ℕ) (next : ℕ → List ℕ → Format (List ℕ) (List ℕ)) (n : ℕ) → ((o : ℕ) (ports : List ℕ) → ReadsFew (next o ports) at n)
-      → ReadsFew (register_if row offset made next) at (n + 4)
-  few_register None offset made next n few = rises (next (offset + 2) made) at n (n + 4) (omega arith) (few (offset + 2) made)
-  few_register (Some row) offset made next n few =
-      let width = width_few (row_width row) in
-      (omega (arith, width), λ v kept. rises (next (offset + width_bytes (row_width row)) _) at n (n + 4 - width_bytes (row_width row)) (omega (arith, width)) (few (offset + width_bytes (row_width row)) _))
+  abbrev rows_bytes : List DisplayRegister → ℕ
+  rows_bytes [] = 0
+  rows_bytes (register ∷ registers) = (display_row register).count * width_of (display_row register) + rows_bytes registers
 
-  few_registers_from : (which : Engine) (steps offset : ℕ) (made : List ℕ) → ReadsFew (registers_from which steps offset made) at (steps * 4)
-  few_registers_from which zero offset made = tt
-  few_registers_from which (suc steps) offset made =
-      rises (registers_from which (suc steps) offset made) at (steps * 4 + 4) (suc steps * 4) (omega arith)
-      (few_register (engine_row_at which offset) offset made (registers_from which steps) (steps * 4) (few_registers_from which steps))
+  few_row : (row : DisplayRow) (count place : ℕ) (made : List ℕ) (next : List ℕ → Format (List ℕ) (List ℕ)) (greatest read : ℕ)
+      → ((ports : List ℕ) → ReadsFew at greatest (read + count * width_of row) (next ports)) → ReadsFew at greatest read (row_format row count place made next)
+  few_row row zero place made next greatest read few = subst (λ n. ReadsFew at greatest n (next made)) (omega arith) (few made)
+  few_row row (suc count) place made next greatest read few = λ value _. few_row row count _ _ next greatest _
+      (λ ports. subst (λ n. ReadsFew at greatest n (next ports)) (grind arith) (few ports))
 
-  few_ports : (which : Engine) → ReadsFew (ports_format which) at 224
+  few_rows : (registers : List DisplayRegister) (made : List ℕ) (greatest read : ℕ) → read + rows_bytes registers ≤ greatest
+      → ReadsFew at greatest read (rows_format registers made)
+  few_rows [] made greatest read le = omega (arith, le)
+  few_rows (register ∷ registers) made greatest read le =
+      few_row (display_row register) (display_row register).count _ made (rows_format registers) greatest read
+      (λ ports. few_rows registers ports greatest _ (omega (arith, le)))
+
+  few_ports : (which : Engine) → ReadsFew at 224 0 (ports_format which)
   unfolding ports_format
-  few_ports which = few_registers_from which 56 0 (zeroes engine_bytes)
+  few_ports A = few_rows (engine_registers A) (zeroes engine_bytes) 224 0 (omega arith)
+  few_ports B = few_rows (engine_registers B) (zeroes engine_bytes) 224 0 (omega arith)
 
-  few_point : ReadsFew point_format at 8
+  few_point : ReadsFew at 8 0 point_format
   unfolding point_format
   few_point = search rules
 
-  few_pixel : ReadsFew pixel_format at 2
+  few_pixel : ReadsFew at 2 0 pixel_format
   few_pixel = search rules
 
-  few_frame : ReadsFew frame_format at 196608
+  few_frame : ReadsFew at 196608 0 frame_format
   unfolding frame_format frame_pixels
-  few_frame = (2, few_pixel, omega arith, λ pixels. tt)
+  few_frame = (2, few_pixel) ⨾ λ pixels. omega arith
 
-  few_video : ReadsFew (video_format at) at 393705
+  few_video : ReadsFew at 393705 0 (video_format at)
   unfolding video_format
-  few_video = (
-    omega arith,
-    λ line _. (
-      omega arith,
-      λ blanked _. (
-        omega arith,
-        λ nine _. (
-          omega arith,
-          λ seven _. (
-            224,
-            few_ports A,
-            omega arith,
-            λ a. (
-              224,
-              few_ports B,
-              omega arith,
-              λ b. (
-                omega arith,
-                λ power _. (
-                  8,
-                  few_point,
-                  omega arith,
-                  λ two_a. (
-                    8,
-                    few_point,
-                    omega arith,
-                    λ three_a. (
-                      8,
-                      few_point,
-                      omega arith,
-                      λ two_b. (
-                        8,
-                        few_point,
-                        omega arith,
-                        λ three_b. (
-                          196608,
-                          few_frame,
-                          omega arith,
-                          λ drawn. (196608, few_frame, omega arith, λ whole. tt),
-                        ),
-                      ),
-                    ),
-                  ),
-                ),
-              ),
-            ),
-          ),
-        ),
-      ),
-    ),
-  )
+  few_video = λ line _ blanked _ nine _ seven _. (224, few_ports A) ⨾ λ a. (224, few_ports B) ⨾ λ b power _. (8, few_point) ⨾ λ two_a. (8, few_point) ⨾ λ three_a.
+      (8, few_point) ⨾ λ two_b. (8, few_point) ⨾ λ three_b. (196608, few_frame) ⨾ λ drawn. (196608, few_frame) ⨾ λ whole. omega arith
 
   -- ---- geometry
 
-  few_matrix : ReadsFew matrix_format at 64
+  few_matrix : ReadsFew at 64 0 matrix_format
   unfolding matrix_format
-  few_matrix = (4, few_signed, omega arith, λ cells. tt)
+  few_matrix = (4, few_signed) ⨾ λ cells. omega arith
 
-  few_stacks : ReadsFew stacks_format at 4357
+  few_stacks : ReadsFew at 4357 0 stacks_format
   unfolding stacks_format
-  few_stacks = (
-    omega arith,
-    λ mode _. (
-      omega arith,
-      λ level _. (
-        omega arith,
-        λ projection_pushed _. (
-          omega arith,
-          λ texture_pushed _. (
-            omega arith,
-            λ error _. (
-              64,
-              few_matrix,
-              omega arith,
-              λ projection. (
-                64,
-                few_matrix,
-                omega arith,
-                λ position. (
-                  64,
-                  few_matrix,
-                  omega arith,
-                  λ vector. (
-                    64,
-                    few_matrix,
-                    omega arith,
-                    λ texture. (
-                      64,
-                      few_matrix,
-                      omega arith,
-                      λ positions. (
-                        64,
-                        few_matrix,
-                        omega arith,
-                        λ vectors. (
-                          64,
-                          few_matrix,
-                          omega arith,
-                          λ projection_stored. (64, few_matrix, omega arith, λ texture_stored. tt),
-                        ),
-                      ),
-                    ),
-                  ),
-                ),
-              ),
-            ),
-          ),
-        ),
-      ),
-    ),
-  )
+  few_stacks = search (rules, few_matrix) depth 60 fits 8000
 
-  few_current : ReadsFew current_format at 36
+  few_current : ReadsFew at 36 0 current_format
   unfolding current_format
   few_current = search rules
 
-  few_light : ReadsFew light_format at 14
+  few_light : ReadsFew at 14 0 light_format
   unfolding light_format
   few_light = search rules
 
-  few_lighting : ReadsFew lighting_format at 193
+  few_lighting : ReadsFew at 193 0 lighting_format
   unfolding lighting_format
-  few_lighting = (
-    omega arith,
-    λ diffuse _. (
-      omega arith,
-      λ ambient _. (
-        omega arith,
-        λ specular _. (
-          omega arith,
-          λ emission _. (
-            omega arith,
-            λ by_table _. (
-              4,
-              few_word,
-              omega arith,
-              λ table. (
-                14,
-                few_light,
-                omega arith,
-                λ first. (14, few_light, omega arith, λ second. (14, few_light, omega arith, λ third. (14, few_light, omega arith, λ fourth. tt))),
-              ),
-            ),
-          ),
-        ),
-      ),
-    ),
-  )
+  few_lighting = search (rules, few_light) depth 60 fits 8000
 
-  few_results : ReadsFew results_format at 23
+  few_results : ReadsFew at 23 0 results_format
   unfolding results_format
-  few_results = (4, few_signed, omega arith, λ position. search rules)
+  few_results = (4, few_signed) ⨾ λ position. search rules
 
-  -- the lists after their counts
-  few_lists_by : (vertices polygons : ℕ) → vertices ≤ 6144 → polygons ≤ 2048 → (vertices * 22 ≤ 186368) × (polygons * 25 ≤ 186368 - vertices * 22)
-  few_lists_by vertices polygons a b = (omega (arith, a), omega (arith, a, b))
-
-  few_lists : ReadsFew lists_format at 186388
+  few_lists : ReadsFew at 186388 0 lists_format
   unfolding lists_format
-  few_lists = (
-    omega arith,
-    λ tick _. (
-      omega arith,
-      λ parameter _. (
-        omega arith,
-        λ vertices kept. (
-          omega arith,
-          λ polygons kept₂. (let counts = few_lists_by vertices polygons (swapped_few tick vertices 6144 at kept) (swapped_few tick polygons 2048 at kept₂) in
-              (22, few_vertex, counts.0, λ vs. (25, few_polygon, counts.1, λ ps. tt))),
-        ),
-      ),
-    ),
-  )
+  few_lists = λ tick _ parameter _ vertices kept polygons kept₂. (let a = swapped_few tick vertices 6144 at kept in
+      let b = swapped_few tick polygons 2048 at kept₂ in (22, few_vertex) ⨾ λ vs. (25, few_polygon) ⨾ λ ps. omega (arith, a, b))
 
-  few_geometry : ReadsFew geometry_format at 377393
+  few_geometry : ReadsFew at 377393 0 geometry_format
   unfolding geometry_format
-  few_geometry = (
-    4357,
-    few_stacks,
-    omega arith,
-    λ stacks. (
-      omega arith,
-      λ overflow _. (
-        omega arith,
-        λ parameter _. (
-          36,
-          few_current,
-          omega arith,
-          λ current. (
-            193,
-            few_lighting,
-            omega arith,
-            λ lighting. (
-              omega arith,
-              λ kind _. (
-                omega arith,
-                λ run _. (
-                  omega arith,
-                  λ first _. (
-                    omega arith,
-                    λ second _. (
-                      omega arith,
-                      λ third _. (
-                        23,
-                        few_results,
-                        omega arith,
-                        λ results. (
-                          omega arith,
-                          λ vertices kept. (
-                            omega arith,
-                            λ polygons kept₂. (let a = open_few first second third at vertices kept in
-                                let b = most polygons 2048 kept₂ in
-                                (22, few_vertex, omega (arith, a), λ vs. (25, few_polygon, omega (arith, a, b), λ ps. (186388, few_lists, omega (arith, a, b), λ last. tt)))),
-                          ),
-                        ),
-                      ),
-                    ),
-                  ),
-                ),
-              ),
-            ),
-          ),
-        ),
-      ),
-    ),
-  )
+  few_geometry = (4357, few_stacks) ⨾ λ stacks overflow _ parameter _. (36, few_current) ⨾ λ current. (193, few_lighting) ⨾ λ lighting kind _ run _ first _ second _ third _.
+      (23, few_results) ⨾ λ results vertices kept polygons kept₂. (let a = open_few first second third at vertices kept in let b = most polygons 2048 kept₂ in
+      (22, few_vertex) ⨾ λ vs. (25, few_polygon) ⨾ λ ps. (186388, few_lists) ⨾ λ last. omega (arith, a, b))
 
-  few_entry : ReadsFew entry_format at 5
+  few_entry : ReadsFew at 5 0 entry_format
   unfolding entry_format
   few_entry = search rules
 
-  few_gx : (asked : Asked) → ReadsFew (gx_format_by asked) at 379032
+  few_gx : (asked : Asked) → ReadsFew at 379032 0 (gx_format_by asked)
   unfolding gx_format_by
-  few_gx asked = (
-    377393,
-    few_geometry,
-    omega arith,
-    λ geometry. (
-      omega arith,
-      λ display _. (
-        omega arith,
-        λ selector _. (
-          omega arith,
-          λ count kept. (let le = entries_few asked selector at count kept in
-              (5, few_entry, omega (arith, le), λ entries. (omega (arith, le), λ packed _. (omega (arith, le), λ left _. (omega (arith, le), λ due _. (omega (arith, le), λ waits _. tt)))))),
-        ),
-      ),
-    ),
-  )
+  few_gx asked = (377393, few_geometry) ⨾ λ geometry display _ selector _ count kept. (let le = entries_few asked selector at count kept in
+      (5, few_entry) ⨾ λ entries packed _ left _ due _ waits _. omega (arith, le))
 
   -- ---- the machine's own parts
 
-  few_processor : (arch : Arch) → ReadsFew (processor_format arch) at 157
+  few_processor : (arch : Arch) → ReadsFew at 157 0 (processor_format arch)
   unfolding processor_format
-  few_processor arch = (148, few_registers arch, omega arith, λ registers. search rules)
+  few_processor arch = (148, few_registers arch) ⨾ λ registers. search rules
 
-  few_processors : ReadsFew processors_format at 326
+  few_processors : ReadsFew at 326 0 processors_format
   unfolding processors_format
-  few_processors = (157, few_processor V5, omega arith, λ nine. (157, few_processor V4, omega arith, λ seven. (12, few_cp15, omega arith, λ cp15. tt)))
+  few_processors = (157, few_processor V5) ⨾ λ nine. (157, few_processor V4) ⨾ λ seven. (12, few_cp15) ⨾ λ cp15. omega arith
 
-  few_banks : ReadsFew banks_format at 671753
+  few_banks : ReadsFew at 671753 0 banks_format
   unfolding banks_format banks_size
-  few_banks = (omega arith, λ bytes _. search rules)
+  few_banks = search rules
 
-  few_memories : ReadsFew memories_format at 5017609
+  few_memories : ReadsFew at 5017609 0 memories_format
   unfolding memories_format saved_size
-  few_memories = (
-    omega arith,
-    λ main _. (
-      omega arith,
-      λ shared _. (
-        omega arith,
-        λ wram _. (
-          omega arith,
-          λ itcm _. (
-            omega arith,
-            λ dtcm _. (
-              omega arith,
-              λ palette _. (671753, few_banks, omega arith, λ vram. (omega arith, λ oam _. tt)),
-            ),
-          ),
-        ),
-      ),
-    ),
-  )
+  few_memories = λ main _ shared _ wram _ itcm _ dtcm _ palette _. (671753, few_banks) ⨾ λ vram oam _. omega arith
 
-  few_units : (halted : Bool) → ReadsFew (units_format halted) at 337
+  few_units : (halted : Bool) → ReadsFew at 337 0 (units_format halted)
   unfolding units_format
-  few_units halted = (
-    omega arith,
-    λ wramcnt _. (
-      9,
-      few_irq Nine false,
-      omega arith,
-      λ irq₉. (
-        9,
-        few_irq Seven halted,
-        omega arith,
-        λ irq₇. (
-          52,
-          few_timers,
-          omega arith,
-          λ timers₉. (
-            52,
-            few_timers,
-            omega arith,
-            λ timers₇. (
-              41,
-              few_divider,
-              omega arith,
-              λ divider. (21, few_root, omega arith, λ root. (146, few_ipc, omega arith, λ ipc. search rules)),
-            ),
-          ),
-        ),
-      ),
-    ),
-  )
+  few_units halted = λ wramcnt _. (9, few_irq Nine false) ⨾ λ irq₉. (9, few_irq Seven halted) ⨾ λ irq₇. (52, few_timers) ⨾ λ timers₉. (52, few_timers) ⨾ λ timers₇.
+      (41, few_divider) ⨾ λ divider. (21, few_root) ⨾ λ root. (146, few_ipc) ⨾ λ ipc. search rules
 
-  few_channels : (late : Bool) → ReadsFew (channels_format late) at 336
+  few_channels : (late : Bool) → ReadsFew at 336 0 (channels_format late)
   unfolding channels_format
-  few_channels late = (160, few_dma Nine false, omega arith, λ nine. (160, few_dma Seven late, omega arith, λ seven. (4, few_word, omega arith, λ fill. tt)))
+  few_channels late = (160, few_dma Nine false) ⨾ λ nine. (160, few_dma Seven late) ⨾ λ seven. (4, few_word) ⨾ λ fill. omega arith
 
-few_machine : (around : Around) (at : ℕ) → ReadsFew (machine_format_by around at) at 5791374
+few_machine : (around : Around) (at : ℕ) → ReadsFew at 5791374 0 (machine_format_by around at)
 unfolding machine_format_by
-few_machine around at = (
-  326,
-  few_processors at,
-  omega arith,
-  λ processors. (
-    5017609,
-    few_memories at,
-    omega arith,
-    λ memories. (
-      337,
-      few_units at _,
-      omega arith,
-      λ units. (
-        336,
-        few_channels at _,
-        omega arith,
-        λ channels. (
-          393705,
-          few_video at,
-          omega arith,
-          λ video. (379032, few_gx at _, omega arith, λ gx. (29, few_card at around.file, omega arith, λ card. tt)),
-        ),
-      ),
-    ),
-  ),
-)
+few_machine around at = (326, few_processors at) ⨾ λ processors. (5017609, few_memories at) ⨾ λ memories. (337, few_units at _) ⨾ λ units. (336, few_channels at _) ⨾ λ channels.
+    (393705, few_video at) ⨾ λ video. (379032, few_gx at _) ⨾ λ gx. (29, few_card at around.file) ⨾ λ card. omega arith
 
-few_head : (digest : List ℕ) (limit : ℕ) → ReadsFew (head_format digest) limit 74
+few_head : (digest : List ℕ) (limit : ℕ) → ReadsFew limit 74 0 (head_format digest)
 unfolding head_format
 few_head digest limit = search rules
 
@@ -559,7 +249,7 @@ states_are_short = λ digest limit file keys bytes c h.
     let head = both.0.0 in
     let inner = bound (read_format (format_behind head file keys) head.at both.0.1) (λ m. Ok (console_of head m.0, m.1)) whole.0 both.2 in
     let came : (console_of head inner.0.0, inner.0.1) ≡ whole.0 = ok_same inner.2 in
-    let front = reads_few (head_format digest) limit 74 (record { place = 0; bytes = bytes }) both.0 (few_head digest limit) both.1 in
-    let own = reads_few (format_behind head file keys) head.at 5791374 both.0.1 inner.0 (few_machine _ head.at) inner.1 in
+    let front = reads_few (head_format digest) limit 74 0 (record { place = 0; bytes = bytes }) both.0 (few_head digest limit) both.1 in
+    let own = reads_few (format_behind head file keys) head.at 5791374 0 both.0.1 inner.0 (few_machine _ head.at) inner.1 in
     let none : length inner.0.1.bytes ≡ 0 = ap (λ (p : ConsoleState × Left). length p.1.bytes) came ∙ ap (λ (bs : List ℕ). length bs) whole.3 in
     omega (arith, front, own, none))

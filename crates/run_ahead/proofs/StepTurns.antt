@@ -1,31 +1,20 @@
-use Rattle.std.proofs.Common.{ℕ, ◌≡◌, ◌≤◌, ◌<◌, ◌+◌, ◌*◌, ◌^◌, ◌⊎◌, inl, inr, ◌==◌, ◌&&◌, ◌||◌, nat_lt, max, ◌∷◌, Fits, w64, List, Option, Some, None, Bool, true, false, true≢false, refl, sym, ◌∙◌, ap, subst, arith, []}
-use Rattle.std.specs.Prelude.{IsSome}
+use Rattle.run_ahead.proofs.Words.{ℕ, ◌≡◌, ◌≤◌, ◌<◌, ◌+◌, ◌*◌, ◌^◌, ◌⊎◌, inl, inr, ◌==◌, ◌&&◌, ◌||◌, nat_lt, max, ◌∷◌, List, Option, Some, None, Bool}
+use Rattle.run_ahead.proofs.Words.{true, false, true≢false, refl, sym, ◌∙◌, ap, subst, arith, [], IsSome, LeftOut, Proc, Tick, actor_of, IsLeast}
+use Rattle.run_ahead.proofs.Words.{IsOver, MachineStep, Makes, due_at, acting_dues, is_behind, IsRunning, CatchesUpFor, CatchesUpIf, ComesBeforeAll}
+use Rattle.run_ahead.proofs.Words.{observes_by, Shown, dues_of, next_shown, reference_step, IsSound, Steps, MachineState, counts_of, IsLeastBelow}
+use Rattle.run_ahead.proofs.Words.{ActedLeaves, ActedStops, acted_keeps, acted_stops, caught_so, due_of_rank, few_where_stops, running_along}
+use Rattle.run_ahead.proofs.Words.{ConsoleState, open_of, TookStretch, TookTurn, MeetsStop, StopsActing, TakesActing, TakesQuiet, Turns}
+use Rattle.run_ahead.proofs.Words.{one_more_turn, run_to}
+use Rattle.std.proofs.Common.{Fits, w64}
 use Rattle.std.proofs.Math.Facts.{Fits-of_lt}
 use Rattle.std.proofs.lemmas.Bool.{ltb-false, or_parts}
-use Rattle.ds_base.specs.declared.left_out.LeftOut.{LeftOut}
-use Rattle.ds_base.specs.declared.processors.Proc.{Proc}
-use Rattle.ds_base.specs.declared.ticks.Tick.{Tick}
-use Rattle.ds_runs.specs.Actors.{actor_of}
-use Rattle.ds_runs.specs.Runs.{IsLeast, IsOver, MachineStep, Makes, due_at}
-use Rattle.ds_machine.specs.Acting.{acting_dues, is_behind, is_due_before}
-use Rattle.ds_machine.specs.Counting.{IsRunning}
-use Rattle.ds_machine.specs.Lagging.{CatchesUpFor, CatchesUpIf, ComesBeforeAll, observes_by}
-use Rattle.ds_machine.specs.Reference.{Shown, dues_of, next_shown, reference_step}
-use Rattle.ds_machine.specs.Sound.{IsSound}
-use Rattle.ds_machine.specs.StepAnswers.{Steps}
-use Rattle.ds_machine.specs.States.{MachineState, counts_of}
-use Rattle.ds_machine.specs.TurnSteps.{IsLeastBelow}
+use Rattle.ds_machine.specs.Acting.{is_due_before}
 use Rattle.ds_machine.specs.declared.answers.Done as answer
 use Rattle.ds_machine.specs.declared.answers.Done.TheVariants as answers
 use Rattle.ds_machine.proofs.ActingDues.{acts_then, loud_same}
-use Rattle.ds_machine.proofs.ActingSteps.{Acted, ActedKeeps, ActedLeaves, ActedStops, acted_keeps, acted_stops}
-use Rattle.ds_machine.proofs.CatchingUp.{caught_more, caught_so}
-use Rattle.ds_machine.proofs.DueTicks.{due_of_rank}
-use Rattle.ds_machine.proofs.Running.{few_where_stops, running_acted, running_taken}
-use Rattle.ds_machine.proofs.TurnSteps.{running_along}
-use Rattle.run_ahead.specs.Consoles.{ConsoleState, open_of}
-use Rattle.run_ahead.specs.Inside.{TookStretch, TookTurn}
-use Rattle.run_ahead.specs.Turns.{MeetsStop, StopsActing, TakesActing, TakesQuiet, Turns, one_more_turn, run_to}
+use Rattle.ds_machine.proofs.ActingSteps.{Acted, ActedKeeps}
+use Rattle.ds_machine.proofs.CatchingUp.{caught_more}
+use Rattle.ds_machine.proofs.Running.{running_acted, running_taken}
 use Rattle.run_ahead.specs.declared.turns.Turned.TheVariants as turned
 use Rattle.run_ahead.proofs.Stretches.{stop_few, stop_takes_none_back, stretch_took}
 

@@ -1,30 +1,13 @@
-use Rattle.std.proofs.Common.{ℕ, ◌≡◌, ◌<◌, ◌≤◌, ◌*◌, ◌⊎◌, inl, inr, Option, Some, None, true, true≢false, refl, sym, ◌∙◌, ap, subst, arith, []}
+use Rattle.run_ahead.proofs.Words.{ℕ, ◌≡◌, ◌<◌, ◌≤◌, ◌*◌, ◌⊎◌, inl, inr, Option, Some, None, true, true≢false, refl, sym, ◌∙◌, ap, subst, arith, []}
+use Rattle.run_ahead.proofs.Words.{LeftOut, Proc, Tick, IsLeast, Makes, Runs, places_remaining, acting_dues, IsRunning, last_frame, last_lists}
+use Rattle.run_ahead.proofs.Words.{CatchesUpFor, rank_of, reference, reference_step, IsSound, MachineState, counts_of, processor_of, tick_of}
+use Rattle.run_ahead.proofs.Words.{BelongsToTurn, TakesSteps, no_steps, more_steps, IsLeastBelow, MayAct, own_remaining, acting_processor}
+use Rattle.run_ahead.proofs.Words.{acted_fewer, ActedLeaves, ActedStops, acted_keeps, acted_stops, acting_stops, own_tick, turn_steps_fall}
+use Rattle.run_ahead.proofs.Words.{few_where_stops, running_along, takes_along, TookStretch, GoesOn, StretchStops, TakesStretch}
 use Rattle.std.specs.Option.{is_some}
-use Rattle.ds_base.specs.declared.left_out.LeftOut.{LeftOut}
-use Rattle.ds_base.specs.declared.processors.Proc.{Proc}
-use Rattle.ds_base.specs.declared.ticks.Tick.{Tick}
-use Rattle.ds_runs.specs.Runs.{IsLeast, Makes, Runs}
 use Rattle.ds_runs.specs.Runs as runs
-use Rattle.ds_runs.specs.Schedules.{places_remaining}
-use Rattle.ds_machine.specs.Acting.{acting_dues}
-use Rattle.ds_machine.specs.Counting.{IsRunning}
-use Rattle.ds_machine.specs.Frames.{last_frame, last_lists}
-use Rattle.ds_machine.specs.Lagging.{CatchesUpFor}
-use Rattle.ds_machine.specs.Private.{rank_of}
-use Rattle.ds_machine.specs.Reference.{processor_due, reference, reference_step}
-use Rattle.ds_machine.specs.Sound.{IsSound}
-use Rattle.ds_machine.specs.States.{MachineState, counts_of}
-use Rattle.ds_machine.specs.Steps.{processor_of, tick_of}
-use Rattle.ds_machine.specs.TurnSteps.{BelongsToTurn, IsLeastBelow, MayAct, TakesSteps, no_steps, more_steps, own_remaining}
-use Rattle.ds_machine.proofs.ActingDues.{acting_processor}
-use Rattle.ds_machine.proofs.ActingPlaces.{acted_fewer, acted_no_more}
-use Rattle.ds_machine.proofs.ActingSteps.{ActedLeaves, ActedStops, acted_keeps, acted_stops, acting_stops}
-use Rattle.ds_machine.proofs.DueTicks.{own_tick}
-use Rattle.ds_machine.proofs.OwnRemaining.{turn_steps_fall}
-use Rattle.ds_machine.proofs.Running.{few_where_stops}
-use Rattle.ds_machine.proofs.TurnSteps.{belongs_acted, belongs_acts, belongs_below, belongs_stops, running_along, takes_along, takes_run}
-use Rattle.run_ahead.specs.Inside.{TookStretch}
-use Rattle.run_ahead.specs.Turns.{GoesOn, StretchStops, TakesStretch}
+use Rattle.ds_machine.proofs.ActingPlaces.{acted_no_more}
+use Rattle.ds_machine.proofs.TurnSteps.{belongs_acted, belongs_acts, belongs_below, belongs_stops, takes_run}
 
 -- A stretch: steps of a processor that belong to its turn, one after another; before one that observes geometry, geometry catches up.
 
@@ -46,9 +29,6 @@ some_of (Some left) e = (left, refl)
 -- ---- a step by the rank and the tick that are told
 
 module _ (until : ℕ) (s : MachineState) (proc : Proc) (rank : ℕ) (tick : Tick) (is : rank ≡ rank_of proc) (told_tick : tick ≡ tick_of (processor_of s proc)) where
-  told_due : BelongsToTurn until s proc → processor_due s proc ≡ Some tick
-  told_due belongs = belongs.due ∙ ap (λ (t : Tick). (let o : Option Tick = Some t in o)) (own_tick s proc belongs.tick belongs.due ∙ sym told_tick)
-
   pub told_acts : BelongsToTurn until s proc → MayAct s tick rank
   told_acts belongs =
       subst (λ (t : Tick). MayAct s t rank) (sym told_tick) (subst (λ (r : ℕ). MayAct s (tick_of (processor_of s proc)) r) (sym is) (belongs_acts until s proc belongs))

@@ -1,21 +1,8 @@
-use Rattle.std.proofs.Common.{ℕ, ◌≡◌, ◌<◌, ◌+◌, ◌-◌, ◌⊎◌, inl, inr, [], refl, sym, ◌∙◌, ap, subst, arith}
-use Rattle.ds_base.specs.declared.left_out.LeftOut.{LeftOut}
-use Rattle.ds_base.specs.declared.processors.Proc.{Proc}
-use Rattle.ds_base.specs.declared.ticks.Tick.{Tick}
-use Rattle.ds_runs.specs.Runs.{IsLeast, Makes, Stops}
-use Rattle.ds_machine.specs.Acting.{acting_dues}
-use Rattle.ds_machine.specs.Lagging.{CatchesUpFor}
-use Rattle.ds_machine.specs.Private.{rank_of}
-use Rattle.ds_machine.specs.Reference.{reference_step}
-use Rattle.ds_machine.specs.Sound.{IsSound}
-use Rattle.ds_machine.specs.States.{MachineState}
-use Rattle.ds_machine.specs.Steps.{processor_of}
-use Rattle.ds_machine.specs.TurnSteps.{BelongsToTurn, TakesSteps, no_steps, more_steps, own_remaining, ticks_left}
-use Rattle.ds_machine.proofs.ActingDues.{acting_processor, due_where_acts}
-use Rattle.ds_machine.proofs.DueTicks.{own_tick}
-use Rattle.ds_machine.proofs.OwnRemaining.{turn_steps_fall}
+use Rattle.run_ahead.proofs.Words.{ℕ, ◌≡◌, ◌<◌, ◌+◌, ◌-◌, ◌⊎◌, inl, inr, [], refl, sym, ◌∙◌, ap, subst, arith, LeftOut, Proc, Tick, IsLeast, Makes}
+use Rattle.run_ahead.proofs.Words.{Stops, acting_dues, CatchesUpFor, rank_of, reference_step, IsSound, MachineState, processor_of, BelongsToTurn}
+use Rattle.run_ahead.proofs.Words.{TakesSteps, no_steps, more_steps, own_remaining, ticks_left, acting_processor, due_where_acts, own_tick}
+use Rattle.run_ahead.proofs.Words.{turn_steps_fall, MeetsStop, StopsActing, StretchStops, TakesActing, TakesStretch}
 use Rattle.run_ahead.specs.TickTurns.{IsTickBefore, TurnsOfOneTick}
-use Rattle.run_ahead.specs.Turns.{MeetsStop, StopsActing, StretchStops, TakesActing, TakesStretch}
 use Rattle.run_ahead.specs.declared.turns.Turned.TheVariants as answers
 
 -- Turns of one tick.

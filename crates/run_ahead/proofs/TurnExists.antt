@@ -1,36 +1,21 @@
-use Rattle.std.proofs.Common.{ℕ, zero, suc, ◌≡◌, ◌<◌, ◌≤◌, ◌+◌, ◌⊎◌, inl, inr, Bool, true, false, true≢false, List, [], ◌∷◌, Option, Some, None, refl, sym, ◌∙◌, ap, subst, arith}
-use Rattle.std.specs.Prelude.{IsSome}
-use Rattle.ds_base.proofs.Choices.{low_or_high, true_or_false}
-use Rattle.ds_base.specs.declared.left_out.LeftOut.{LeftOut}
-use Rattle.ds_base.specs.declared.processors.Proc.{Proc}
-use Rattle.ds_base.specs.declared.processors.Proc.TheVariants.{Nine, Seven}
-use Rattle.ds_base.specs.declared.ticks.Due.{Due}
-use Rattle.ds_runs.specs.Actors.{actor_of}
-use Rattle.ds_runs.specs.Runs.{IsLeast, MachineStep, Makes, Stops}
-use Rattle.ds_machine.specs.Acting.{acting_dues, is_behind}
-use Rattle.ds_machine.specs.Lagging.{CatchesUp, CatchesUpFor, CatchesUpIf, TakesGeometry, observes_by}
+use Rattle.run_ahead.proofs.Words.{ℕ, zero, suc, ◌≡◌, ◌<◌, ◌≤◌, ◌+◌, ◌⊎◌, inl, inr, Bool, true, false, true≢false, List, [], ◌∷◌, Option, Some, None}
+use Rattle.run_ahead.proofs.Words.{refl, sym, ◌∙◌, ap, subst, arith, IsSome, low_or_high, true_or_false, LeftOut, Proc, Nine, Seven, Due, actor_of}
+use Rattle.run_ahead.proofs.Words.{IsLeast, MachineStep, Makes, Stops, acting_dues, is_behind, CatchesUp, CatchesUpFor, CatchesUpIf, TakesGeometry}
+use Rattle.run_ahead.proofs.Words.{observes_by, rank_of, IsSound, Shown, next_shown, reference_step, Steps, MachineState, processor_of, BelongsToTurn}
+use Rattle.run_ahead.proofs.Words.{TakesSteps, no_steps, more_steps, IsLeastBelow, own_remaining, ticks_left, acting_low, behind_is, caught_so}
+use Rattle.run_ahead.proofs.Words.{turn_steps_fall, ConsoleState, TookStretch, TookTurn, at_end, counts, meets_stop, Turns, counted_of, one_more_turn}
+use Rattle.run_ahead.proofs.Words.{run_to, turns_remaining}
 use Rattle.ds_machine.specs.Lagging as lagging
-use Rattle.ds_machine.specs.Private.{rank_of}
-use Rattle.ds_machine.specs.Sound.{IsSound}
-use Rattle.ds_machine.specs.Reference.{Shown, next_shown, reference_step}
-use Rattle.ds_machine.specs.StepAnswers.{Steps}
-use Rattle.ds_machine.specs.States.{MachineState}
-use Rattle.ds_machine.specs.Steps.{processor_of}
-use Rattle.ds_machine.specs.TurnSteps.{BelongsToTurn, IsLeastBelow, TakesSteps, no_steps, more_steps, own_remaining, ticks_left}
 use Rattle.ds_machine.specs.declared.answers.Done as answer
 use Rattle.ds_machine.specs.declared.answers.Done.TheVariants as answers
-use Rattle.ds_machine.proofs.ActingDues.{acting_low}
 use Rattle.ds_machine.proofs.ActingSteps.{caught_steps, caught_up}
-use Rattle.ds_machine.proofs.CatchingUp.{behind_is, caught_for, caught_so, fewer_left}
+use Rattle.ds_machine.proofs.CatchingUp.{caught_for, fewer_left}
 use Rattle.ds_machine.proofs.LagCommutes.{late_put}
 use Rattle.ds_machine.proofs.LagSteps.{quiet_step}
-use Rattle.ds_machine.proofs.OwnRemaining.{still_due, turn_silent, turn_steps_fall}
+use Rattle.ds_machine.proofs.OwnRemaining.{still_due, turn_silent}
 use Rattle.ds_machine.proofs.StepsMay.{answer_of}
 use Rattle.gx_fifo.specs.GxStates.{gx_finished}
-use Rattle.run_ahead.specs.Consoles.{ConsoleState}
-use Rattle.run_ahead.specs.Inside.{TookStretch, TookTurn}
-use Rattle.run_ahead.specs.ToEnd.{HasTurnsToEnd, TurnsEnd, at_end, counts, meets_stop}
-use Rattle.run_ahead.specs.Turns.{Turns, counted_of, one_more_turn, run_to, turns_remaining}
+use Rattle.run_ahead.specs.ToEndLaws.{HasTurnsToEnd, TurnsEnd}
 use Rattle.run_ahead.specs.declared.turns.Turned as turned
 use Rattle.run_ahead.specs.declared.turns.Turned.TheVariants as turns
 use Rattle.run_ahead.proofs.StepTurns.{event_keeps, event_took, is_stop, is_stretch, over_all, over_from}

@@ -1,21 +1,15 @@
-use Rattle.std.proofs.Common.{ℕ, ◌≡◌, ◌<◌, ◌≤◌, ◌+◌, inl, inr, Bool, true, false, List, [], ◌∷◌, Option, Some, None, refl, ap, arith}
-use Rattle.ds_base.specs.declared.left_out.LeftOut.{LeftOut}
-use Rattle.ds_base.specs.declared.ticks.Tick.{Tick}
+use Rattle.run_ahead.proofs.Words.{ℕ, ◌≡◌, ◌<◌, ◌≤◌, ◌+◌, inl, inr, Bool, true, false, List, [], ◌∷◌, Option, Some, None, refl, ap, arith, LeftOut}
+use Rattle.run_ahead.proofs.Words.{Tick, places_remaining, is_behind, last_frame, last_lists, MachineState, Shown, next_shown, reference, IsSound}
+use Rattle.run_ahead.proofs.Words.{acted_fewer, acting_stops, caught_so, takes_along, ConsoleState, TakesActing, TakesQuiet, MeetsStop, Turns}
+use Rattle.run_ahead.proofs.Words.{counted_of, turns_in, HasTurned, no_turn, one_turn, GoesOn, turns_remaining, shown_in}
 use Rattle.ds_runs.specs.Runs.{over}
-use Rattle.ds_runs.specs.Schedules.{places_remaining}
 use Rattle.ds_runs.proofs.RunExists.{run_exists}
-use Rattle.ds_machine.specs.Acting.{is_behind}
-use Rattle.ds_machine.specs.Frames.{FollowFrames, FollowLists, last_frame, last_lists}
-use Rattle.ds_machine.specs.States.{MachineState}
-use Rattle.ds_machine.specs.Reference.{Shown, next_shown, reference}
-use Rattle.ds_machine.specs.Sound.{HasSoundParts, IsSound}
-use Rattle.ds_machine.proofs.ActingPlaces.{acted_fewer}
-use Rattle.ds_machine.proofs.ActingSteps.{acting_runs, acting_stops}
-use Rattle.ds_machine.proofs.CatchingUp.{caught_so, catching_up_runs}
+use Rattle.ds_machine.specs.FrameLaws.{FollowFrames, FollowLists}
+use Rattle.ds_machine.specs.Sound.{HasSoundParts}
+use Rattle.ds_machine.proofs.ActingSteps.{acting_runs}
+use Rattle.ds_machine.proofs.CatchingUp.{catching_up_runs}
 use Rattle.ds_machine.proofs.MachineSchedule.{reference_schedules}
-use Rattle.ds_machine.proofs.TurnSteps.{takes_along}
-use Rattle.run_ahead.specs.Consoles.{ConsoleState}
-use Rattle.run_ahead.specs.Turns.{TakesActing, TakesQuiet, MeetsStop, Turns, RunsOn, GoesOn, HasRuns, turns_remaining, one_if, counted_of, shown_in, turns_in, HasTurned, no_turn, one_turn, TurnsAddUp}
+use Rattle.run_ahead.specs.TurnLaws.{RunsOn, HasRuns, one_if, TurnsAddUp}
 use Rattle.run_ahead.specs.declared.turns.Turned as turned
 use Rattle.run_ahead.specs.declared.turns.Turned.TheVariants as answers
 use Rattle.run_ahead.proofs.StepTurns.{before_all, event_acted, event_keeps, event_leaves}

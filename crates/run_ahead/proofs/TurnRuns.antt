@@ -1,15 +1,10 @@
-use Rattle.std.proofs.Common.{ℕ, ◌≡◌, ◌≤◌, List, [], ◌++◌, Option, Some, None, max, refl, sym, ◌∙◌, ap, subst, append_assoc, append-nil, arith}
-use Rattle.std.specs.Prelude.{IsSome}
-use Rattle.std.proofs.lemmas.Option.{none-some, same_Some}
-use Rattle.ds_base.specs.declared.left_out.LeftOut.{LeftOut}
-use Rattle.ds_runs.specs.Runs.{Ending, At, Runs}
+use Rattle.run_ahead.proofs.Words.{ℕ, ◌≡◌, ◌≤◌, List, [], ◌++◌, Option, Some, None, max, refl, sym, ◌∙◌, ap, subst, arith, IsSome, none-some}
+use Rattle.run_ahead.proofs.Words.{same_Some, LeftOut, Ending, At, Runs, MachineState, IsSound, Shown, reference, ConsoleState, TurnsToEnd, at_end}
+use Rattle.run_ahead.proofs.Words.{counts, meets_stop, GoesOn, shown_in, HasTurned, Turns, counted_of}
+use Rattle.std.proofs.Common.{append_assoc, append-nil}
 use Rattle.ds_runs.specs.Runs as runs
-use Rattle.ds_machine.specs.States.{MachineState}
-use Rattle.ds_machine.specs.Sound.{IsSound}
-use Rattle.ds_machine.specs.Reference.{Shown, reference}
-use Rattle.run_ahead.specs.Consoles.{ConsoleState}
-use Rattle.run_ahead.specs.ToEnd.{TurnsEndAsRuns, TurnsKeepRuns, TurnsOn, TurnsStopAsRuns, TurnsToEnd, at_end, counts, meets_stop, no_turn_on, one_turn_on}
-use Rattle.run_ahead.specs.Turns.{GoesOn, HasTurned, EachRan, Turns, counted_of, shown_in}
+use Rattle.run_ahead.specs.ToEndLaws.{TurnsEndAsRuns, TurnsKeepRuns, TurnsOn, TurnsStopAsRuns, no_turn_on, one_turn_on}
+use Rattle.run_ahead.specs.TurnLaws.{EachRan}
 use Rattle.run_ahead.specs.Turns as one_limit
 use Rattle.run_ahead.specs.declared.turns.Turned as turned
 use Rattle.run_ahead.specs.declared.turns.Turned.TheVariants as answers

@@ -1,35 +1,29 @@
-use Rattle.std.proofs.Common.{ℕ, ◌≡◌, ◌<◌, ◌⊎◌, inl, inr, Bool, true, false, true≢false, List, [], ◌∷◌, Option, Some, None, refl, sym, ◌∙◌, ap, arith}
+use Rattle.run_ahead.proofs.Words.{ℕ, ◌≡◌, ◌<◌, ◌⊎◌, inl, inr, Bool, true, false, true≢false, List, [], ◌∷◌, Option, Some, None, refl, sym, ◌∙◌, ap}
+use Rattle.run_ahead.proofs.Words.{arith, none-some, same_Some, low_or_high, true_or_false, Proc, Nine, Seven, Due, Tick, IsLeast, acting_dues}
+use Rattle.run_ahead.proofs.Words.{rank_of, MachineState, tick_of, BelongsToTurn}
 use Rattle.std.specs.List.{list_all}
 use Rattle.std.specs.Prelude.{nat_le, if◌then◌else◌}
-use Rattle.std.proofs.lemmas.Option.{none-some, same_Some}
 use Rattle.std.proofs.lemmas.List.Elements.{All-contains}
 use Rattle.std.proofs.lemmas.List.Sums.{AllPass-from_list_all}
-use Rattle.ds_base.proofs.Choices.{low_or_high, same_or_not, true_or_false}
+use Rattle.ds_base.proofs.Choices.{same_or_not}
 use Rattle.ds_base.specs.Accesses.{Access, Fetch, MemoryMachine, Read, Write}
-use Rattle.ds_base.specs.declared.processors.Proc.{Proc}
-use Rattle.ds_base.specs.declared.processors.Proc.TheVariants.{Nine, Seven}
-use Rattle.ds_base.specs.declared.ticks.Due.{Due}
-use Rattle.ds_base.specs.declared.ticks.Tick.{Tick}
 use Rattle.ds_card.specs.Cards.{card_due_for}
 use Rattle.arm_core.specs.Footprints.{access_bytes}
 use Rattle.arm_core.specs.Registers.{RegisterState}
 use Rattle.arm_core.specs.Steps.{fetched}
 use Rattle.ds_map.specs.Views.{nine_memory, seven_memory}
-use Rattle.ds_runs.specs.Order.{due_with_rank, earlier, first_from}
+use Rattle.ds_runs.specs.OrderLaws.{due_with_rank, earlier, first_from}
 use Rattle.ds_ports.specs.Acting.{acting_io_due}
-use Rattle.ds_runs.specs.Runs.{IsLeast}
 use Rattle.ds_runs.specs.declared.actors.Actor.TheVariants.{Geometry}
 use Rattle.ds_runs.proofs.Lists.{has_least}
 use Rattle.video2d.specs.Scans.{scan_due_tick}
-use Rattle.ds_machine.specs.Acting.{acting_dues}
 use Rattle.ds_machine.specs.FenceTicks.{channel_dues, timer_dues}
-use Rattle.ds_machine.specs.Private.{AllReachPrivate, IsAhead, IsFence, IsPrivate, ProcessorStaysPrivate, ReachesPrivate, StaysPrivate, is_deaf, may_go_ahead, rank_of}
+use Rattle.ds_machine.specs.Private.{AllReachPrivate, IsAhead, IsPrivate, ProcessorStaysPrivate, ReachesPrivate, StaysPrivate, is_deaf, may_go_ahead}
+use Rattle.ds_machine.specs.PrivateLaws.{IsFence}
 use Rattle.ds_machine.specs.Sides.{data_accesses, next_fetch}
 use Rattle.ds_machine.specs.Reference.{keys_due, processor_due}
 use Rattle.ds_machine.specs.PrivateSides.{SideOf, nine_side, seven_side}
-use Rattle.ds_machine.specs.States.{MachineState}
-use Rattle.ds_machine.specs.Steps.{is_blocked, line_of, nine_reach, seven_reach, tick_of}
-use Rattle.ds_machine.specs.TurnSteps.{BelongsToTurn}
+use Rattle.ds_machine.specs.Steps.{is_blocked, line_of, nine_reach, seven_reach}
 use Rattle.ds_machine.proofs.ActingDues.{somebody_acts}
 use Rattle.ds_machine.proofs.FenceFirsts.{ahead_where, below_is, below_then, below_where, fence_is, least_where, nine_by_parts, rank_where, seven_by_parts}
 use Rattle.ds_machine.proofs.PrivateTests.{Passes, all_of}
@@ -71,8 +65,8 @@ module _ {S : Type 0} (side : SideOf S) (state : S) where
 
   stays : (memory : MemoryMachine S) (s : RegisterState) → IsDecided (StaysPrivate memory side s state)
   stays memory s =
-      let accesses = data_accesses side.arch (side.base state) s (fetched memory side.arch s state).instr in
-      let kind = may_go_ahead side.arch (fetched memory side.arch s state).instr in
+      let accesses = data_accesses side.step.arch (side.step.base state) s (fetched memory side.step.arch s state).instr in
+      let kind = may_go_ahead side.step.arch (fetched memory side.step.arch s state).instr in
       elim (reaches (next_fetch s)) [
         | inr never ↦ inr (λ h. never h.fetch)
         | inl fetch ↦ elim (both (kind ≡ true) (AllReachPrivate side state accesses) (is_bit kind true) (all_reach accesses)) [

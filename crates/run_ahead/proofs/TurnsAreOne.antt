@@ -1,30 +1,15 @@
-use Rattle.std.proofs.Common.{ℕ, ◌≡◌, ◌<◌, ◌≤◌, ◌⊎◌, inl, inr, Bool, true, false, true≢false, List, [], ◌∷◌, Option, Some, None, refl, sym, ◌∙◌, ap, subst, arith}
-use Rattle.std.specs.Prelude.{IsSome}
-use Rattle.std.proofs.lemmas.Option.{none-some, same_Some}
-use Rattle.ds_base.specs.declared.left_out.LeftOut.{LeftOut}
-use Rattle.ds_base.specs.declared.processors.Proc.{Proc}
-use Rattle.ds_base.specs.declared.processors.Proc.TheVariants.{Nine, Seven}
-use Rattle.ds_base.specs.declared.ticks.Tick.{Tick}
-use Rattle.ds_runs.specs.Actors.{actor_of}
-use Rattle.ds_runs.specs.Runs.{Ending, At, IsLeast, IsOver, MachineStep, Makes, Stops}
+use Rattle.run_ahead.proofs.Words.{ℕ, ◌≡◌, ◌<◌, ◌≤◌, ◌⊎◌, inl, inr, Bool, true, false, true≢false, List, [], ◌∷◌, Option, Some, None, refl, sym, ◌∙◌}
+use Rattle.run_ahead.proofs.Words.{ap, subst, arith, IsSome, none-some, same_Some, LeftOut, Proc, Nine, Seven, Tick, actor_of, Ending, At, IsLeast}
+use Rattle.run_ahead.proofs.Words.{IsOver, MachineStep, Makes, Stops, acting_dues, is_behind, CatchesUp, CatchesUpFor, CatchesUpIf, TakesGeometry}
+use Rattle.run_ahead.proofs.Words.{observes_by, rank_of, Shown, dues_of, next_shown, reference_step, MachineState, processor_of, BelongsToTurn}
+use Rattle.run_ahead.proofs.Words.{TakesSteps, due_where_acts, behind_is, due_of_rank, ConsoleState, TurnsToEnd, at_end, counts, meets_stop}
+use Rattle.run_ahead.proofs.Words.{MeetsStop, TakesEvent, TakesQuiet, TakesStretch, Turns, counted_of, one_more_turn, run_to}
 use Rattle.ds_runs.specs.Runs as runs
 use Rattle.ds_runs.proofs.Lists.{least_unique}
 use Rattle.ds_runs.proofs.RunLaws.{not_both, same_makes}
-use Rattle.ds_machine.specs.Acting.{acting_dues, is_behind}
-use Rattle.ds_machine.specs.Lagging.{CatchesUp, CatchesUpFor, CatchesUpIf, TakesGeometry, observes_by}
 use Rattle.ds_machine.specs.Lagging as lagging
-use Rattle.ds_machine.specs.Private.{rank_of}
-use Rattle.ds_machine.specs.Reference.{Shown, dues_of, next_shown, reference_step}
-use Rattle.ds_machine.specs.States.{MachineState}
-use Rattle.ds_machine.specs.Steps.{processor_of}
-use Rattle.ds_machine.specs.TurnSteps.{BelongsToTurn, TakesSteps}
 use Rattle.ds_machine.specs.TurnSteps as steps
-use Rattle.ds_machine.proofs.ActingDues.{due_where_acts}
-use Rattle.ds_machine.proofs.CatchingUp.{behind_is}
-use Rattle.ds_machine.proofs.DueTicks.{due_of_rank}
-use Rattle.run_ahead.specs.Consoles.{ConsoleState}
-use Rattle.run_ahead.specs.ToEnd.{TurnIsOne, TurnsAreOne, TurnsToEnd, at_end, counts, meets_stop}
-use Rattle.run_ahead.specs.Turns.{MeetsStop, TakesEvent, TakesQuiet, TakesStretch, Turns, counted_of, one_more_turn, run_to}
+use Rattle.run_ahead.specs.ToEndLaws.{TurnIsOne, TurnsAreOne}
 use Rattle.run_ahead.specs.declared.turns.Turned as turned
 use Rattle.run_ahead.specs.declared.turns.Turned.TheVariants as answers
 

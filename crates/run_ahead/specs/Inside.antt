@@ -1,18 +1,21 @@
-use Rattle.std.specs.Prelude.{ℕ, ◌≡◌, ◌<◌, ◌⊎◌, [], ◌∷◌, Option, Some, None, max}
+use Rattle.std.specs.Prelude.{ℕ, ◌≡◌, ◌<◌, ◌≤◌, ◌⊎◌, [], ◌∷◌, Option, Some, None, max}
 use Rattle.ds_base.specs.declared.left_out.LeftOut.{LeftOut}
 use Rattle.ds_base.specs.declared.processors.Proc.{Proc}
 use Rattle.ds_runs.specs.Runs.{Makes, Stops}
+use Rattle.ds_machine.specs.CountingLaws.{IsRunning}
 use Rattle.ds_machine.specs.Lagging.{CatchesUpFor}
 use Rattle.ds_machine.specs.Private.{rank_of}
-use Rattle.ds_machine.specs.TurnSteps.{BelongsToTurn, HasEnds, IsFirst, TakesSteps}
+use Rattle.ds_machine.specs.TurnSteps.{BelongsToTurn, TakesSteps}
+use Rattle.ds_machine.specs.TurnLaws.{HasEnds, IsFirst}
 use Rattle.ds_machine.specs.Reference.{next_shown, reference_step}
-use Rattle.ds_machine.specs.States.{MachineState}
+use Rattle.ds_machine.specs.States.{MachineState, counts_of}
 use Rattle.ds_machine.specs.Steps.{processor_of}
 use Rattle.ds_machine.specs.declared.answers.Done.{Done}
 use Rattle.ds_machine.specs.declared.answers.Done.TheVariants as answers
 use Rattle.ds_machine.specs.declared.next_events.Ends.{Ends}
 use Rattle.ds_machine.specs.declared.next_events.First.{First}
 use Rattle.run_ahead.specs.Consoles.{ConsoleState}
+use Rattle.run_ahead.specs.declared.heads.Head.{Head}
 use Rattle.run_ahead.specs.declared.machine_turns.Slow.{Slow}
 use Rattle.run_ahead.specs.declared.machine_turns.Slow.TheVariants as slow
 use Rattle.run_ahead.specs.Turns.{MeetsStop, TakesEvent, TakesQuiet, TakesStretch}
@@ -61,3 +64,7 @@ pub record AreAtOnce (until : ℕ) (c : ConsoleState) (ends : Ends) : Type 0 whe
   pub known : HasEnds until c.machine ends
   pub same : 0 < ends.end → max c.limit until ≡ c.limit
   pub still_open : 0 < ends.end → c.stopped ≡ None
+
+-- the machine behind a head goes on to a limit
+abbrev pub GoesBehind : ℕ → Head → MachineState → Type 0
+GoesBehind limit head s = (head.at < limit) × IsRunning head.at s × (head.turns ≤ counts_of s)

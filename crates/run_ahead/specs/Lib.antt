@@ -3,5 +3,8 @@ pub mod Heads
 pub mod Inside
 pub mod Saved
 pub mod ToEnd
+pub mod ToEndLaws
 pub mod TickTurns
 pub mod Turns
+pub mod TurnLaws
+pub mod Looks

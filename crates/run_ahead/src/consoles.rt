@@ -4,26 +4,29 @@ ghost use Rattle.std.specs.Prelude.{max, ◌≡◌, ◌≢◌, ◌≤◌, ◌<�
 ghost use Rattle.ds_base.specs.Memories.{memory_size};
 ghost use Rattle.ds_machine.specs.Acting.{IsActing};
 ghost use Rattle.ds_machine.specs.Booted.{machine_booted};
-ghost use Rattle.ds_machine.specs.Frames.{framed_of, FollowFrames, FollowLists};
+ghost use Rattle.ds_machine.specs.Frames.{framed_of};
+ghost use Rattle.ds_machine.specs.FrameLaws.{FollowFrames, FollowLists};
 ghost use Rattle.ds_machine.specs.Inspections.{memory_of, registers_of, seen_of};
 ghost use Rattle.ds_ipc.specs.Ipcs.{AreSides};
 ghost use Rattle.ds_machine.specs.Sound.{HasSoundParts, IsSound};
 ghost use Rattle.ds_machine.specs.StepAnswers.{IsDue};
 ghost use Rattle.ds_machine.specs.Statuses.{HasBothStatuses};
-ghost use Rattle.ds_machine.specs.TurnSteps.{HasEnds};
-ghost use Rattle.ds_machine.specs.Within.{IsWithinTick};
+ghost use Rattle.ds_machine.specs.TurnLaws.{HasEnds};
+ghost use Rattle.ds_machine.specs.WithinLaws.{IsWithinTick};
 ghost use Rattle.run_ahead.specs.Consoles.{AreWithin};
 ghost use Rattle.run_ahead.specs.Inside.{AreAtOnce, IsAtOnce};
-ghost use Rattle.run_ahead.specs.Turns.{Turns, TurnsUpTo, RunsOn, HasRuns, turns_remaining, counted_of, shown_in};
+ghost use Rattle.run_ahead.specs.Turns.{Turns, counted_of};
+ghost use Rattle.run_ahead.specs.TurnLaws.{TurnsUpTo, RunsOn, HasRuns, turns_remaining, shown_in};
 ghost use Rattle.ds_base.specs.declared.left_out.LeftOut.{LeftOut};
 ghost use Rattle.run_ahead.specs.declared.turns.Turned.TheVariants.{Ran, Stopped};
 
+mod looks;
 mod saved;
 
 use crate::loaded::Loaded;
 use crate::machine_turns::{take_stretch_of, take_turn};
 use crate::turns::Turned;
-use ds_base::{Due, Keys, LeftOut, Memory, Proc, Tick};
+use ds_base::{Due, Keys, LeftOut, Memory, Proc, Tick, known};
 use ds_header::Cart;
 use ds_machine::{Done, Ends, First, Seen, time_laws};
 use gx_geometry::Lists;
@@ -57,7 +60,7 @@ pub struct Console {
 impl Model for Console {
     ghost use Rattle.run_ahead.specs.Consoles.{ConsoleState, open_of};
     ghost use Rattle.ds_machine.specs.Booted.{machine_booted};
-    ghost use Rattle.ds_machine.specs.Counting.{IsRunning};
+    ghost use Rattle.ds_machine.specs.CountingLaws.{IsRunning};
     ghost use Rattle.ds_machine.specs.States.{counts_of};
     ghost use Rattle.std.specs.Prelude.{◌≡◌, ◌≤◌, ◌*◌, ◌^◌, None};
 
@@ -79,7 +82,7 @@ impl Console {
         ensures within { IfOk result (λ console. IsWithinTick 0 console.machine) }
         ensures parts { IfOk result (λ console. HasSoundParts console.machine) }
     {
-        time_laws();
+        known!(time_laws());
         let machine = Loaded::new(alloc, cart, keys)?;
         Ok(Console {
             machine,
@@ -106,7 +109,7 @@ impl Console {
         ensures counted { self.new.turns ≡ counted_of result + self.old.turns }
         ensures falls { counted_of result ≡ 1 → turns_remaining until.0 self.new.machine < turns_remaining until.0 self.old.machine }
     {
-        self.laws();
+        known!(self.laws());
         self.step(until)
     }
 
@@ -121,7 +124,7 @@ impl Console {
     {
         let mut ends = self.ends(until);
         'run: loop {
-            self.laws();
+            known!(self.laws());
             if let Some(first) = ends.first() {
                 if self.take_at_once(&mut ends, first, until) {
                     return self.stop_answer();
@@ -150,7 +153,7 @@ impl Console {
         ensures last { AreWithin self.now.machine.io.gx.geometry.last.vertices self.now.machine.io.gx.geometry.last.polygons }
         ensures turns { self.now.turns ≤ 24 * self.now.limit }
     {
-        self.machine.laws();
+        known!(self.machine.laws());
     }
 
     /// By these the processor is found whose turn can be taken at once: it is known to be the least acting actor, and its turn raises no limit.
@@ -252,7 +255,7 @@ impl Console {
     pub fn has_runs(&self)
         ensures { HasRuns self.now.machine }
     {
-        self.laws();
+        known!(self.laws());
     }
 
     /// What a processor does next.

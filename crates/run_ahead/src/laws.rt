@@ -1,8 +1,8 @@
 //! The laws of turns.
 
 ghost use Rattle.run_ahead.specs.TickTurns.{TurnsOfOneTick};
-ghost use Rattle.run_ahead.specs.ToEnd.{TurnIsOne, TurnsAreOne, TurnsEnd, TurnsEndAsRuns, TurnsKeepRuns, TurnsStopAsRuns};
-ghost use Rattle.run_ahead.specs.Turns.{TurnsAddUp};
+ghost use Rattle.run_ahead.specs.ToEndLaws.{TurnIsOne, TurnsAreOne, TurnsEnd, TurnsEndAsRuns, TurnsKeepRuns, TurnsStopAsRuns};
+ghost use Rattle.run_ahead.specs.TurnLaws.{TurnsAddUp};
 
 /// Does nothing; its contract states what holds of turns, one after another. After any turns with a limit the count of turns has grown by as many as
 /// those that count. A turn is one: its answer and what it leaves. Turns with a limit go on to their end, where no actor is due below the limit or

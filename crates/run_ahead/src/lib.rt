@@ -31,8 +31,11 @@
 //!   lines are those from its tick on, where all that the machine keeps of times is as it is after a run to that tick: so it is of one that
 //!   was just switched on (`Console::new`, clause `within`), and wherever a run of it ends (`time_laws`). `Console::resume`
 //!   gives exactly what is read of bytes (`read_state`): the console that they stand for; or the place of the first field that isn't
-//!   whole or breaks its rule, or of the first byte that is left over. `state_laws`: bytes that are read as a console are its bytes,
+//!   whole or breaks its rule, or of the first byte that is left over. `Console::go_back` becomes that console, of the cartridge that it has, and
+//!   after a refusal is as it was. `state_laws`: bytes that are read as a console are its bytes,
 //!   and are no more than a file of one may have.
+//! - `Console::looked` is the value that a processor's read gives at an address at the tick up to which the console was run, where anything
+//!   answers (`looked_in`), and reads nothing; `pc`, `cpsr`, `is_halted`, `due_of` and `steps` tell a part of the machine each.
 //! - `Console::laws` tells what `Machine::laws` does, at most 324 entries that wait (`entries`), at most 6,144 vertices and 2,048 polygons
 //!   in the open lists (`open`) and the last (`last`), and unless the console has stopped that no halted processor is to wake and the units
 //!   are settled (`sound`).

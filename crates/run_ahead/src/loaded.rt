@@ -2,7 +2,6 @@
 
 ghost use Rattle.std.specs.Prelude.{◌≡◌, ◌↔◌, ◌<◌, ◌≤◌, ◌+◌, ◌*◌, ◌^◌, ℕ, false, true, slice_index, IfOk, IfSome, None, OnOk};
 ghost use Rattle.ds_state.specs.Formats.{bytes_written};
-ghost use Rattle.ds_state.specs.Reading.{GivesIn, read_format};
 ghost use Rattle.run_ahead.specs.Saved.{format_behind};
 ghost use Rattle.run_ahead.specs.declared.heads.Head.{Head};
 ghost use Rattle.ds_ipc.specs.Ipcs.{AreSides, other_proc};
@@ -10,7 +9,7 @@ ghost use Rattle.ds_ports.specs.Io.{io_at_boot};
 ghost use Rattle.ds_machine.specs.Acting.{is_behind, IsActing};
 ghost use Rattle.ds_machine.specs.Back.{HasMachineBounds};
 ghost use Rattle.ds_machine.specs.Booted.{machine_booted};
-ghost use Rattle.ds_machine.specs.Counting.{last_limit, IsRunning, RunsAfter};
+ghost use Rattle.ds_machine.specs.CountingLaws.{last_limit, IsRunning, RunsAfter};
 ghost use Rattle.ds_machine.specs.Lagging.{CatchesUp, CatchesUpFor, ComesBeforeAll};
 ghost use Rattle.ds_machine.specs.Sound.{HasSoundParts};
 ghost use Rattle.ds_machine.specs.Private.{rank_of};
@@ -18,14 +17,15 @@ ghost use Rattle.ds_machine.specs.States.{with_file, MachineState};
 ghost use Rattle.ds_machine.specs.Statuses.{HasBothStatuses};
 ghost use Rattle.ds_machine.specs.StepAnswers.{done_of, Steps};
 ghost use Rattle.ds_machine.specs.Steps.{processor_of, tick_of};
-ghost use Rattle.ds_machine.specs.TurnSteps.{due_or_never, BelongsToTurn, HasEnds, HasLimit, IsTurnEnd, MayAct, MayStep, TakesSteps};
+ghost use Rattle.ds_machine.specs.TurnLaws.{due_or_never, HasEnds, HasLimit, IsTurnEnd, MayAct, MayStep};
+ghost use Rattle.ds_machine.specs.TurnSteps.{BelongsToTurn, TakesSteps};
 ghost use Rattle.gx_fifo.specs.GxStates.{IsGx};
 
 use crate::heads::Head;
-use ds_base::{Due, Keys, LeftOut, Proc, Tick};
+use ds_base::{Due, Keys, LeftOut, Proc, Tick, known};
 use ds_header::Cart;
 use ds_machine::{Done, Ends, Machine};
-use ds_state::{Packer, Unpacked, Unpacker};
+use ds_state::Packer;
 use std::alloc::{AllocError, Global};
 use std::marker::Model;
 use std::ops::Deref;
@@ -213,31 +213,32 @@ impl Loaded {
         self.machine.pack(into)
     }
 
-    /// Takes the machine that stands behind a head, of a cartridge and a key script. All memory of a run is taken here. The error is want of memory,
-    /// or where the first field begins that isn't whole or breaks its rule.
-    pub fn unpack(
-        alloc: Global,
-        cart: Cart,
-        keys: Keys,
-        head: Head,
-        from: &mut Unpacker,
-    ) -> Result<Loaded, Unpacked>
-        requires early { head.at ≤ 2 ^ 56 }
-        requires few { head.nine + head.seven + head.events ≤ 24 * head.at }
-        requires bytes { (i : ℕ) → slice_index from.old.bytes i < 256 }
-        ensures reads { GivesIn (λ m. m) result from.new (read_format (format_behind head cart keys) head.at from.old) }
-        ensures running { IfOk result (λ m. IsRunning head.at m) }
+    /// A machine with a cartridge.
+    pub fn of(machine: Machine, cart: Cart) -> Loaded
+        ensures { result ≡ with_file cart machine }
     {
-        let steps = [head.nine, head.seven, head.events];
-        let machine = Machine::unpack(alloc, &cart, keys, steps, from, Tick(head.at))?;
-        Ok(Loaded { machine, cart })
+        Loaded { machine, cart }
+    }
+
+    /// The cartridge.
+    pub fn cart(&self) -> &Cart
+        ensures { result.now ≡ self.now.file }
+    {
+        &self.cart
+    }
+
+    /// Puts another machine in the place of this one, with the same cartridge.
+    pub fn put(&mut self, machine: Machine)
+        ensures { self.new ≡ with_file self.old.file machine }
+    {
+        self.machine = machine;
     }
 
     /// Does nothing; its contract tells what is known of each number of the machine.
     pub fn bounds(&self)
         ensures { HasMachineBounds self.now }
     {
-        self.machine.bounds();
+        known!(self.machine.bounds());
     }
 
     /// Does nothing; its contract states what holds of every machine.
@@ -247,6 +248,6 @@ impl Loaded {
         ensures statuses { HasBothStatuses self.now }
         ensures geometry { IsGx self.now.io.gx }
     {
-        self.machine.laws();
+        known!(self.machine.laws());
     }
 }

@@ -2,10 +2,10 @@
 
 ghost use Rattle.std.specs.Prelude.{◌≡◌, ◌<◌, ◌≤◌, ◌^◌, false, true, None, Some};
 ghost use Rattle.ds_base.specs.declared.left_out.LeftOut.{LeftOut};
-ghost use Rattle.ds_machine.specs.TurnSteps.{HasEnds, HasLimit};
+ghost use Rattle.ds_machine.specs.TurnLaws.{HasEnds, HasLimit};
 ghost use Rattle.ds_machine.specs.Steps.{processor_of};
 ghost use Rattle.ds_machine.specs.Acting.{IsActing, is_behind};
-ghost use Rattle.ds_machine.specs.Counting.{last_limit, IsRunning};
+ghost use Rattle.ds_machine.specs.CountingLaws.{last_limit, IsRunning};
 ghost use Rattle.ds_machine.specs.TurnSteps.{BelongsToTurn, TakesSteps};
 ghost use Rattle.run_ahead.specs.Inside.{HasProcessor, TookSlowly, TookStretch, TookTurn};
 

@@ -8,7 +8,7 @@ ghost use Rattle.ds_state.specs.Reading.{GivesRead, read_format};
 use crate::cores::Core;
 use crate::registers::Registers;
 use crate::statuses::kept_status_bits;
-use ds_base::{Arch, Tick};
+use ds_base::{Arch, Tick, known};
 use ds_state::{Packer, Unpacked, Unpacker, put_list, take_each};
 use std::alloc::AllocError;
 
@@ -58,7 +58,7 @@ impl Core {
     pub fn laws(&self)
         ensures { AreRegisters self.now.registers }
     {
-        self.registers.laws();
+        known!(self.registers.laws());
     }
 }
 

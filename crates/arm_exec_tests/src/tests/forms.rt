@@ -68,6 +68,7 @@ pub enum Form {
     TransferRegister,
     TransferShifted,
     Literal,
+    Multiple,
     Plain,
 }
 
@@ -138,6 +139,7 @@ pub fn form_of(op: &Op) -> Form {
         Op::TransferRegister(..) => Form::TransferRegister,
         Op::TransferShifted(..) => Form::TransferShifted,
         Op::Literal { .. } => Form::Literal,
+        Op::Multiple(_) => Form::Multiple,
         Op::Plain(_) => Form::Plain,
     }
 }

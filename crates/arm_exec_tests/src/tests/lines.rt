@@ -6,7 +6,9 @@ ghost use Rattle.arm_words.specs.Fields.{HasFields};
 use super::buses::RefusingBus;
 use super::forms::{Form, form_of};
 use arm_core::{Bus, Core, FlatBus, Registers, Stepped, Touch, footprint};
-use arm_ops::{Near, Operation, is_other, operation, run, run_anywhere, touched};
+use arm_ops::{
+    Lists, Near, Operation, Runner, Singles, is_other, operation, run_anywhere, touched,
+};
 use arm_words::{Instr, decode_arm, decode_thumb};
 use arm7_exec::step7;
 use arm9_exec::step9;
@@ -131,6 +133,8 @@ pub enum Line {
     Near,
     /// It is such an operation, and isn't run there.
     Far,
+    /// It is LDM or STM that is decoded, and is run where its words must be of RAM and lists are asked for.
+    List,
     /// It is none.
     Other,
     /// The form of the operation that is made of it.
@@ -164,6 +168,8 @@ enum Way {
     Anywhere,
     /// The same, where they are of RAM.
     Near,
+    /// The same, where it is LDM or STM.
+    Lists,
 }
 
 /// A step that is tried.
@@ -262,10 +268,17 @@ fn run_in_ram(
     s: &mut Registers,
     bus: &mut FlatBus,
     instr: Option<Instr>,
+    lists: bool,
 ) -> Option<Stepped>
     requires { IfSome instr HasFields }
 {
-    match run::<FlatBus, RamAlone>(arch, s, bus, &operation(instr)) {
+    let made = operation(instr);
+    let clocks = if lists {
+        Lists::run::<FlatBus, RamAlone>(arch, s, bus, &made)
+    } else {
+        Singles::run::<FlatBus, RamAlone>(arch, s, bus, &made)
+    };
+    match clocks {
         0 => None,
         clocks => Some(Stepped::Cost(clocks)),
     }
@@ -338,7 +351,7 @@ impl Case {
             Line::Irq => self.irq = true,
             Line::At(at) => self.at = at,
             Line::Refuses(at) => self.bus.refused = at,
-            Line::Near | Line::Far | Line::Other => self.kind = Some(line),
+            Line::Near | Line::Far | Line::List | Line::Other => self.kind = Some(line),
             Line::Is(wanted) => self.is = self.form ^ wanted as u32,
             Line::R(r, value) => {
                 if r < 16 {
@@ -393,8 +406,17 @@ impl Case {
             )),
             _ if self.irq => None,
             Way::Anywhere => run_op(arch, &mut self.core.registers, &mut self.bus, instr),
-            Way::Near if self.bus.refused != 1 => None,
-            Way::Near => run_in_ram(arch, &mut self.core.registers, &mut self.bus.flat, instr),
+            Way::Near | Way::Lists if self.bus.refused != 1 => None,
+            Way::Near | Way::Lists => {
+                let lists = self.way == Way::Lists;
+                run_in_ram(
+                    arch,
+                    &mut self.core.registers,
+                    &mut self.bus.flat,
+                    instr,
+                    lists,
+                )
+            }
         }
     }
 
@@ -474,7 +496,8 @@ impl Case {
     fn is_right_way(&self) -> bool {
         match (self.way, self.kind) {
             (Way::Step, _) => self.found.is_some(),
-            (_, None) => true,
+            (_, None) | (Way::Lists, Some(Line::Near | Line::Far)) => true,
+            (Way::Lists, Some(Line::List)) => self.found.is_some(),
             (_, Some(Line::Near)) | (Way::Anywhere, Some(Line::Far)) => self.found.is_some(),
             _ => self.found.is_none(),
         }
@@ -567,7 +590,7 @@ fn try_on(
 
 /// Tries rows on both processors, by their steps and as decoded operations.
 pub fn try_lines(rt: &impl Abort, alloc: Global, lines: &[Line]) -> Result<(), AllocError> {
-    for way in [Way::Step, Way::Anywhere, Way::Near] {
+    for way in [Way::Step, Way::Anywhere, Way::Near, Way::Lists] {
         try_on(rt, alloc, Proc::Seven, way, lines)?;
         try_on(rt, alloc, Proc::Nine, way, lines)?;
     }

@@ -1,7 +1,7 @@
 //! Loads past RAM that are near, by whoever runs operations.
 
 use arm_core::{FlatBus, Registers};
-use arm_ops::{Near, operation, run};
+use arm_ops::{Near, Runner, Singles, operation};
 use arm_words::decode_arm;
 use ds_base::{Arch, Width};
 use std::alloc::AllocError;
@@ -32,7 +32,7 @@ fn cost(bus: &mut FlatBus, code: u32, at: u32) -> u32 {
     let mut s = Registers::boot(0x0200_0000, [0; 3]);
     s.set(1, at);
     let made = operation(decode_arm(Arch::V5, code));
-    run::<FlatBus, FromPorts>(Arch::V5, &mut s, bus, &made)
+    Singles::run::<FlatBus, FromPorts>(Arch::V5, &mut s, bus, &made)
 }
 
 #[test]

@@ -1,10 +1,10 @@
 //! Instructions that are decoded as operations, and those that aren't; of the others' rows each operation is tried too.
 
 use super::lines::Line::{
-    Arm, At, Both, Cpsr, Far, Flags, Mem, Near, Nzcv, Other, Pc, R, Spsr, Stops, Thumb, To, To7,
-    To9,
+    Arm, At, Both, Cpsr, Far, Flags, List, Mem, Near, Nzcv, Other, Pc, R, Spsr, Stops, Thumb, To,
+    To7, To9,
 };
-use super::lines::{CPSR, LR, try_lines};
+use super::lines::{CPSR, LR, PC, SP, try_lines};
 use ds_base::LeftKind::Swi;
 use std::alloc::AllocError;
 
@@ -76,6 +76,22 @@ fn operations_are_run_in_ram_or_anywhere(rt: HostRuntime) -> Result<(), AllocErr
 
         // other instructions are no operations
                           Arm(0xEF00_0000), Pc(0x100),          Other, Stops(Swi, 0), // swi
-        R(1, 0x200_0060), Arm(0xE891_0001), To(0, 0x8765_4321), Other, Both(3, 2), // ldmia r1, {r0}
+        R(1, 0x200_0060), Arm(0xE891_0001), To(0, 0x8765_4321), List,  Both(3, 2), // ldmia r1, {r0}
+
+        // LDM and STM are run where lists are asked for, in RAM alone
+        R(1, 0x200_0040),                            Arm(0xE8B1_000D), To(0, 7), To(1, 0x200_004C), To(2, 9), To(3, 0x183), List, Both(5, 4), // ldmia r1!
+        R(1, 0x200_004C),                            Arm(0xE931_000D), To(0, 7), To(1, 0x200_0040), To(2, 9), To(3, 0x183), List, Both(5, 4), // ldmdb r1!
+        // a base that is loaded stays so on ARMv4, and on ARMv5 is written back where it isn't the last
+        R(1, 0x200_0040),                            Arm(0xE8B1_0007), To(0, 7), To(2, 0x183), To7(1, 9), To9(1, 0x200_004C), List, Both(5, 4), // ldmia r1!
+        // r15 is loaded
+        R(1, 0x200_0044), Arm(0xE8B1_8001), To(0, 9), To(1, 0x200_004C), To7(PC, 0x180), To9(PC, 0x182), To9(CPSR, 0x3F), List, Both(6, 5), // ldmia r1!
+        At(0x102), R(13, 0x200_004C),                Thumb(0xBD00), To(SP, 0x200_0050), To7(PC, 0x1A2), To9(PC, 0x1A0), To9(CPSR, 0x1F), List, Both(5, 4), // pop {r15}
+        // sixteen words from 3FFFFC0h up are the last of RAM; whose first word is past it takes the instruction's own way
+        R(1, 0x3FF_FFC0), Arm(0xE891_0001), List, To(0, 0), Both(3, 2), // ldmia r1, {r0}
+        R(1, 0x3FF_FFC4), Arm(0xE891_0001), Other, To(0, 0), Both(3, 2), // ldmia r1, {r0}
+        R(1, 0x1FF_FFFC), Arm(0xE891_0001), Other, To(0, 0), Both(3, 2), // ldmia r1, {r0}
+        // so does another bank, r15 as the base, and none at all
+        R(1, 0x200_0040), Arm(0xE8D1_0001), Other, To(0, 7), Both(3, 2), // ldmia r1, {r0}^
+        At(0x200_0100), Arm(0xE89F_0001), Other, To(0, 0x108_B2B2), Both(3, 2), // ldmia r15, {r0}
     ])
 }

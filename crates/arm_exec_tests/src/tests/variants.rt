@@ -13,7 +13,7 @@ use super::forms::Form::{
     TstNumber, TstRegister,
 };
 use super::lines::Line::{
-    Arm, At, Both, Flags, Is, Mem, Near, Nzcv, Other, Pc, R, Thumb, To, To7, To9,
+    Arm, At, Both, Flags, Is, List, Mem, Near, Nzcv, Other, Pc, R, Thumb, To, To7, To9,
 };
 use super::lines::{CPSR, LR, SP, try_lines};
 use std::alloc::AllocError;
@@ -473,8 +473,8 @@ fn products_branches_and_accesses_are_operations_of_their_forms(rt: HostRuntime)
         R(1, 0x200_0060), R(14, 7),
             Arm(0xE101_009E), Is(Form::Other), To(0, 0x8765_4321), Mem(0x200_0060, 7), Other, Both(4, 4), // swp r0, r14, [r1]
         R(14, 0x200_0060),
-            Arm(0xE8BE_0003), Is(Form::Other), To(0, 0x8765_4321), To(1, 9), To(LR, 0x200_0068), Other, Both(4, 3), // ldmia
+            Arm(0xE8BE_0003), Is(Form::Multiple), To(0, 0x8765_4321), To(1, 9), To(LR, 0x200_0068), List, Both(4, 3), // ldmia
         R(14, 0x200_0060), R(1, 5),
-            Arm(0xE88E_0002), Is(Form::Other), Mem(0x200_0060, 5), Other, Both(2, 1), // stmia r14, {r1}
+            Arm(0xE88E_0002), Is(Form::Multiple), Mem(0x200_0060, 5), List, Both(2, 1), // stmia r14, {r1}
     ])
 }

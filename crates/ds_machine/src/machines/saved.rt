@@ -4,7 +4,7 @@ ghost use Rattle.std.specs.Prelude.{◌≡◌, ◌<◌, ◌≤◌, ◌+◌, ◌*
 ghost use Rattle.ds_base.specs.Schedules.{IsEarly};
 ghost use Rattle.ds_base.specs.declared.keys.KeyLine.{KeyLine};
 ghost use Rattle.ds_machine.specs.Back.{HasMachineBounds};
-ghost use Rattle.ds_machine.specs.Counting.{IsRunning};
+ghost use Rattle.ds_machine.specs.CountingLaws.{IsRunning};
 ghost use Rattle.ds_machine.specs.Saved.{machine_format};
 ghost use Rattle.ds_machine.specs.States.{with_file};
 ghost use Rattle.ds_state.specs.Formats.{bytes_written};
@@ -12,7 +12,7 @@ ghost use Rattle.ds_state.specs.Reading.{GivesIn, read_format};
 
 use crate::machines::Machine;
 use crate::parts::Parts;
-use ds_base::{Keys, Tick};
+use ds_base::{Keys, Tick, known};
 use ds_header::Cart;
 use ds_state::{Packer, Unpacked, Unpacker};
 use std::alloc::{AllocError, Global};
@@ -51,7 +51,7 @@ impl Machine {
         ensures running { IfOk result (λ m. IsRunning at.0 (with_file cart.now m)) }
     {
         let parts = Parts::unpack(alloc, cart, keys, steps, from, at)?;
-        parts.laws();
+        known!(parts.laws());
         let next_event = parts.next_event();
         Ok(Machine { parts, next_event })
     }
@@ -61,6 +61,6 @@ impl Machine {
     pub fn bounds(&self)
         ensures { HasMachineBounds self.now }
     {
-        self.parts.bounds();
+        known!(self.parts.bounds());
     }
 }

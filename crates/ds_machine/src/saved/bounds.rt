@@ -4,16 +4,16 @@ ghost use Rattle.ds_machine.specs.Back.{HasMachineBounds, HasSizes, HasUnitBound
 ghost use Rattle.ds_machine.specs.Statuses.{HasBothStatuses};
 
 use crate::parts::Parts;
-use ds_base::Proc;
+use ds_base::{Proc, known};
 
 impl Parts {
     /// Does nothing; its contract states that each memory has its size.
     fn sizes(&self)
         ensures { HasSizes self.now }
     {
-        self.map.laws();
-        let _ = self.nine.itcm.bytes();
-        let _ = self.nine.dtcm.bytes();
+        known!(self.map.laws());
+        known!(self.nine.itcm.bytes());
+        known!(self.nine.dtcm.bytes());
         self.io.vram().bank_laws();
     }
 
@@ -24,9 +24,9 @@ impl Parts {
     {
         self.io.processor(Proc::Nine).irq().laws();
         self.io.processor(Proc::Seven).irq().laws();
-        let _ = self.io.wramcnt();
-        let _ = self.io.pressed();
-        let _ = self.io.fill();
+        known!(self.io.wramcnt());
+        known!(self.io.pressed());
+        known!(self.io.fill());
         self.io.divider().laws();
         self.io.root().laws();
         self.io.ipc().laws();
@@ -42,10 +42,10 @@ impl Parts {
         requires { HasBothStatuses self.now }
         ensures { HasMachineBounds self.now }
     {
-        self.nine.processor.core.laws();
-        self.seven.processor.core.laws();
-        self.nine.cp15.laws();
-        self.sizes();
-        self.unit_bounds();
+        known!(self.nine.processor.core.laws());
+        known!(self.seven.processor.core.laws());
+        known!(self.nine.cp15.laws());
+        known!(self.sizes());
+        known!(self.unit_bounds());
     }
 }

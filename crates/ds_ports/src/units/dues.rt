@@ -4,7 +4,7 @@ ghost use Rattle.std.specs.Prelude.{◌≡◌, ◌<◌, ◌==◌, ◌∷◌, [],
 ghost use Rattle.ds_base.specs.declared.processors.Proc.TheVariants.{Nine};
 ghost use Rattle.ds_runs.specs.Actors.{IsNumbered};
 ghost use Rattle.ds_runs.specs.declared.actors.Actor.TheVariants.{Geometry};
-ghost use Rattle.ds_runs.specs.Order.{first_from};
+ghost use Rattle.ds_runs.specs.OrderLaws.{first_from};
 ghost use Rattle.ds_ports.specs.Acting.{acting_io_due, first_acting_io_due, is_quiet, is_silent};
 ghost use Rattle.ds_ports.specs.Dues.{dma_due_in, io_due, io_dues, released_at};
 ghost use Rattle.ds_ports.specs.Inside.{first_with};

@@ -8,6 +8,7 @@ ghost use Rattle.gx_matrix.specs.CommandTable.{command_row};
 ghost use Rattle.gx_fifo.specs.Saved.{entry_format, has_command};
 
 use crate::entries::{Entries, GxEntry};
+use ds_base::known;
 use ds_state::{Packer, Part, Unpacked, Unpacker, put_list};
 use gx_matrix::GeometryCommand;
 use std::alloc::{AllocError, Global};
@@ -102,7 +103,7 @@ impl Entries {
         ensures { AllByRecursion (λ e. e.word < 2 ^ 32) self.now }
     {
         let (front, back) = self.ring.as_slices();
-        are_words(front);
-        are_words(back);
+        known!(are_words(front));
+        known!(are_words(back));
     }
 }

@@ -10,7 +10,7 @@ ghost use Rattle.gx_fifo.specs.Saved.{GxIsSaved, HasGxBounds, asks_nothing, coun
 use crate::entries::take_entries;
 use crate::gx::{Gx, half_empty_by, level_by, stalls_by};
 use crate::packed::{Fifo, take_left};
-use ds_base::Tick;
+use ds_base::{Tick, known};
 use ds_state::{Packer, Unpacked, Unpacker, holds};
 use gx_geometry::Geometry;
 use std::alloc::{AllocError, Global};
@@ -166,7 +166,7 @@ impl Gx {
     pub fn bounds(&self)
         ensures { HasGxBounds self.now }
     {
-        self.engine.bounds();
+        known!(self.engine.bounds());
         self.fifo.entries().bounds();
     }
 }

@@ -3,7 +3,8 @@
 ghost use Rattle.std.specs.Prelude.{◌≡◌, OnOk};
 ghost use Rattle.ds_state.specs.Formats.{bytes_written, number_code};
 ghost use Rattle.ds_state.specs.Reading.{GivesIn, GivesRead, read_code, read_format, ruled};
-ghost use Rattle.gx_geometry.specs.Saved.{geometry_format, run_until, GeometryIsSaved, HasBounds};
+ghost use Rattle.gx_geometry.specs.Saved.{geometry_format, run_until};
+ghost use Rattle.gx_geometry.specs.SavedLaws.{GeometryIsSaved, HasBounds};
 
 use crate::engine::Geometry;
 use crate::lists::{Lists, put_polygons, put_vertices, take_polygons, take_vertices};
@@ -12,7 +13,7 @@ use crate::numbers::{
 };
 use crate::outcomes::{Outcome, put_results, take_length, take_place, take_results};
 use crate::widths::{are_current, are_lighting, are_polygons, are_results, are_vertices};
-use ds_base::Tick;
+use ds_base::{Tick, known};
 use ds_state::{Packer, Unpacked, Unpacker, holds};
 use gx_matrix::Stacks;
 use std::alloc::{AllocError, Global};
@@ -58,13 +59,13 @@ impl Geometry {
     pub fn bounds(&self)
         ensures { HasBounds self.now }
     {
-        self.numbers.stacks.laws();
+        known!(self.numbers.stacks.laws());
         are_current(&self.numbers);
         are_lighting(&self.numbers);
         are_results(self.outcome.results());
         are_vertices(self.outcome.vertices());
         are_polygons(self.outcome.polygons());
-        self.last.bounds();
+        known!(self.last.bounds());
     }
 
     /// Takes what `pack` puts; the clip matrix is made anew. The error is want of memory, or where the first field begins that isn't whole or

@@ -3,8 +3,9 @@
 ghost use Rattle.std.specs.Prelude.{◌≡◌, ◌<◌, ◌≤◌, length, IfOk, OnOk};
 ghost use Rattle.ds_state.specs.Formats.{bytes_written, number_code, written_each};
 ghost use Rattle.ds_state.specs.Reading.{GivesIn, GivesRead, read_code, read_format, read_list, ruled};
-ghost use Rattle.gx_geometry.specs.Bounds.{AreLimited, HaveColours, HavePalettes, HaveShapes};
-ghost use Rattle.gx_geometry.specs.Saved.{AreSwapped, lists_format, polygon_format, unless_none, vertex_format};
+ghost use Rattle.gx_geometry.specs.BoundLaws.{AreLimited, HaveColours, HavePalettes, HaveShapes};
+ghost use Rattle.gx_geometry.specs.SavedLaws.{AreSwapped};
+ghost use Rattle.gx_geometry.specs.Saved.{lists_format, polygon_format, unless_none, vertex_format};
 
 use crate::capped::Capped;
 use crate::lists::{Lists, POLYGONS, VERTICES};

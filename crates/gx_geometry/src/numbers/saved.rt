@@ -1,15 +1,15 @@
 //! The numbers that geometry commands keep in bytes, but for the matrices and the run.
 
 ghost use Rattle.std.specs.Prelude.{◌≡◌, ◌<◌, ◌^◌, ℕ, map, slice_index_or, IfOk, OnOk};
-ghost use Rattle.ds_state.specs.Formats.{bytes_written};
-ghost use Rattle.ds_state.specs.Reading.{GivesRead, read_format};
+ghost use Rattle.ds_state.specs.Formats.{array, bytes_written};
+ghost use Rattle.ds_state.specs.Reading.{GivesRead, read_code, read_format};
 ghost use Rattle.gx_geometry.specs.Numbers.{no_light};
 ghost use Rattle.gx_geometry.specs.RecordsKept.{light_seen, numbers_seen};
 ghost use Rattle.gx_geometry.specs.Saved.{current_format, current_numbers, run_kind_number, light_format, lighting_format, lighting_numbers};
 ghost use Rattle.gx_geometry.specs.SavedKept.{current_seen, lighting_seen};
 
 use crate::numbers::{Coordinates, Kind, Light, Material, Numbers, Point};
-use ds_state::{Packer, Unpacked, Unpacker, put_list, take_each};
+use ds_state::{Packer, Unpacked, Unpacker, holds};
 use std::alloc::AllocError;
 
 /// What the vertices and polygons have that come next.
@@ -41,7 +41,7 @@ pub struct Lighting {
     /// The material.
     pub material: Material,
     /// The shininess table.
-    pub table: [u32; 32],
+    pub table: [u8; 128],
     /// The lights.
     pub lights: [Light; 4],
 }
@@ -147,12 +147,22 @@ pub fn put_lighting(into: &mut Packer, s: &Numbers) -> Result<(), AllocError>
     into.put_u16(s.material.specular)?;
     into.put_u16(s.material.emission)?;
     into.put_flag(s.material.by_table)?;
-    put_list(into, &s.table)?;
+    into.put_bytes(&s.table)?;
     put_light(into, s.lights[0])?;
     put_light(into, s.lights[1])?;
     put_light(into, s.lights[2])?;
     put_light(into, s.lights[3])?;
     Ok(())
+}
+
+/// Takes the shininess table.
+fn take_table(from: &mut Unpacker) -> Result<[u8; 128], Unpacked>
+    ensures { GivesRead (λ t. t) result from.new (read_code (array 128) from.old) }
+{
+    let offset = from.place();
+    let mut table = [0; 128];
+    holds(from.take_into(&mut table), offset)?;
+    Ok(table)
 }
 
 /// Takes all that lighting asks.
@@ -170,8 +180,7 @@ pub fn take_lighting(from: &mut Unpacker, at: u64) -> Result<Lighting, Unpacked>
     let specular = from.take_half_at_most(0x7FFF)?;
     let emission = from.take_half_at_most(0x7FFF)?;
     let by_table = from.take_flag()?;
-    let mut table = [0u32; 32];
-    take_each(from, &mut table, at)?;
+    let table = take_table(from)?;
     let first = take_light(from, at)?;
     let second = take_light(from, at)?;
     let third = take_light(from, at)?;

@@ -3,7 +3,8 @@
 ghost use Rattle.std.specs.Prelude.{◌≡◌, ◌≤◌, true, slice_index, length, IfOk, OnOk};
 ghost use Rattle.ds_state.specs.Formats.{bytes_written, number_code};
 ghost use Rattle.ds_state.specs.Reading.{GivesRead, read_code, read_format, ruled};
-ghost use Rattle.gx_geometry.specs.Bounds.{is_place, is_told, AreLimited, ArePlaces};
+ghost use Rattle.gx_geometry.specs.Bounds.{is_place, is_told};
+ghost use Rattle.gx_geometry.specs.BoundLaws.{AreLimited, ArePlaces};
 ghost use Rattle.gx_geometry.specs.Saved.{holds_recent, results_format, test_results};
 ghost use Rattle.gx_geometry.specs.SavedKept.{results_seen};
 

@@ -3,7 +3,7 @@
 ghost use Rattle.std.specs.Prelude.{◌≡◌, ◌<◌, ◌^◌, true, IfOk, OnOk};
 ghost use Rattle.ds_state.specs.Formats.{bytes_written};
 ghost use Rattle.ds_state.specs.Reading.{GivesRead, read_format};
-ghost use Rattle.gx_geometry.specs.Bounds.{is_shaped};
+ghost use Rattle.gx_geometry.specs.BoundLaws.{is_shaped};
 ghost use Rattle.gx_geometry.specs.Saved.{polygon_format, vertex_format};
 
 use crate::polygons::{Polygon, Vertex};

@@ -8,6 +8,7 @@ ghost use Rattle.gx_matrix.specs.Commands.{zero_pose, mode_of};
 ghost use Rattle.gx_matrix.specs.Saved.{AreStacks, IsMatrix, IsPose, matrix_format, mode_number, pose_half, stacks_format};
 
 use crate::currents::{Currents, Mode, PLACES, Pose, Single, mode_of};
+use ds_base::known;
 use ds_state::{Packer, Unpacked, Unpacker, put_list, take_each};
 use line_lanes::Matrix;
 use std::alloc::AllocError;
@@ -40,7 +41,7 @@ fn are_words(numbers: &[i32])
 fn is_matrix(matrix: &Matrix)
     ensures { IsMatrix matrix.now }
 {
-    are_words(&matrix.cells);
+    known!(are_words(&matrix.cells));
 }
 
 /// The same of each place of a stack.
@@ -48,8 +49,8 @@ fn are_poses(poses: &[Pose])
     ensures { (i : ℕ) → i < length poses.now → IsPose (slice_index_or poses.now i zero_pose) }
 {
     for pose in poses {
-        is_matrix(&pose.position);
-        is_matrix(&pose.vector);
+        known!(is_matrix(&pose.position));
+        known!(is_matrix(&pose.vector));
     }
 }
 
@@ -150,12 +151,12 @@ impl Currents {
     pub fn laws(&self)
         ensures { AreStacks self.now }
     {
-        is_matrix(&self.projection.current);
-        is_matrix(&self.projection.stored);
-        is_matrix(&self.texture.current);
-        is_matrix(&self.texture.stored);
-        is_matrix(&self.pose.position);
-        is_matrix(&self.pose.vector);
+        known!(is_matrix(&self.projection.current));
+        known!(is_matrix(&self.projection.stored));
+        known!(is_matrix(&self.texture.current));
+        known!(is_matrix(&self.texture.stored));
+        known!(is_matrix(&self.pose.position));
+        known!(is_matrix(&self.pose.vector));
         are_poses(&self.poses);
     }
 

@@ -7,7 +7,7 @@ ghost use Rattle.gx_matrix.specs.Saved.{AreStacks, StacksAreSaved, stacks_format
 
 use crate::currents::Currents;
 use crate::stacks::Stacks;
-use ds_base::Tick;
+use ds_base::{Tick, known};
 use ds_state::{Packer, Unpacked, Unpacker};
 use std::alloc::AllocError;
 
@@ -33,7 +33,7 @@ impl Stacks {
     pub fn laws(&self)
         ensures { AreStacks self.now }
     {
-        self.currents.laws();
+        known!(self.currents.laws());
     }
 }
 

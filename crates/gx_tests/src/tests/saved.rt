@@ -29,12 +29,14 @@ fn taken(alloc: Global, bytes: &[u8], at: u64) -> Result<u32, AllocError> {
 
 /// Three vertices and a triangle.
 #[rattlefmt::skip]
-const ROWS: [Row; 38] = [
+const ROWS: [Row; 43] = [
     (0, 1, 4748, 100, 4748), (0, 3, 4749, 100, 4748), (0, 4, 4748, 100, 10_000), (1, 31, 4748, 100, 4748), (1, 32, 4748, 100, 10_001),
     (2, 2, 4748, 100, 10_002), (4, 1, 4748, 100, 4748), (4, 2, 4748, 100, 10_004), (4357, 2, 4748, 100, 14_357),
     // the colour, the palette's base, the table's flag, a light's colour
     (4363, 0x80, 4748, 100, 14_362), (4363, 0x7F, 4748, 100, 4748), (4391, 0x20, 4748, 100, 14_390), (4391, 0x1F, 4748, 100, 4748),
     (4406, 2, 4748, 100, 14_406), (4548, 0x80, 4748, 100, 14_547),
+    // the table is one field of 128 bytes: its last byte, and cuts at its start, within it and behind it
+    (4534, 9, 4748, 100, 4748), (0, 0, 4407, 100, 14_407), (0, 0, 4412, 100, 14_407), (0, 0, 4534, 100, 14_407), (0, 0, 4535, 100, 14_535),
     // the kind, the run and the tick
     (4591, 4, 4748, 100, 14_591), (4591, 3, 4748, 100, 4748), (0, 0, 4748, 2, 14_592), (0, 0, 4748, 3, 4748),
     // the run's last three: two of them, another place, one past the list

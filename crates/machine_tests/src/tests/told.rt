@@ -116,7 +116,7 @@ struct Tested {
 
 impl Model for Tested {
     ghost use Rattle.std.specs.Prelude.{◌≡◌, false};
-    ghost use Rattle.ds_machine.specs.Counting.{last_limit, IsRunning};
+    ghost use Rattle.ds_machine.specs.CountingLaws.{last_limit, IsRunning};
     ghost use Rattle.ds_machine.specs.States.{MachineState, with_file};
 
     ghost Value = { MachineState };

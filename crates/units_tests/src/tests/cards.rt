@@ -166,7 +166,7 @@ fn seen(alloc: Global, card: &mut Card, file: &[u8], line: Line) -> (Seen, Seen)
     }
 }
 
-const LINES: [Line; 142] = [
+const LINES: [Line; 151] = [
     // registers: which bits stay, one register for each processor or for both, by words, halves and bytes
     Boot,
     Read(Nine, AUXSPICNT, Word, 0),
@@ -244,6 +244,16 @@ const LINES: [Line; 142] = [
     Write(Nine, ROMCTRL, Word, 0x8700_0000, 400),
     Event(true, 0, 0),
     Taken(Nine, 450, 0x81FC, 0, 0),
+    // 7FFFh is the last of them: the word's bytes are those at 81FFh to 8202h; 8200h is an address of its own
+    Set(Nine, PARAMETERS, 0xFF),
+    Write(Nine, ROMCTRL, Word, 0x8700_0000, 500),
+    Event(true, 0, 0),
+    Taken(Nine, 550, 0x81FF, 0, 0),
+    Set(Nine, COMMAND, 0x8200_00B7),
+    Set(Nine, PARAMETERS, 0),
+    Write(Nine, ROMCTRL, Word, 0x8700_0000, 600),
+    Event(true, 0, 0),
+    Taken(Nine, 650, 0x8200, 0, 0),
     // the smallest block of words on ARM7, with its interrupt: the next word is due 40 ticks after the one before it was taken
     Boot,
     Set(Seven, AUXSPICNT, 0x4000),

@@ -148,6 +148,60 @@ fn a_field_fails_where_it_begins(rt: HostRuntime) {
     }
 }
 
+/// Bytes, the fields that are there, and the one that comes behind them, which isn't whole or breaks its rule: where that is told. What stands
+/// before it has an odd number of bytes, or an even one from an odd place on.
+const MIDDLES: [(&[u8], &[Field], Field, u32); 7] = [
+    (&[7, 0, 9, 5], &[Bytes([7, 0, 9])], Half(5), 3),
+    (&[7, 0, 9, 2], &[Bytes([7, 0, 9])], Flag(true), 3),
+    (
+        &[7, 0, 9, 0xFE, 0xFF, 1],
+        &[Bytes([7, 0, 9]), Half(0xFFFE)],
+        Half(1),
+        5,
+    ),
+    (
+        &[1, 4, 3, 2, 1, 7, 0],
+        &[Flag(true), Word(4, 0x0102_0304)],
+        Bytes([7, 0, 9]),
+        5,
+    ),
+    (
+        &[15, 7, 0, 9, 7, 0, 9, 8, 0, 0],
+        &[Most(15), Bytes([7, 0, 9]), Bytes([7, 0, 9])],
+        Signed(8),
+        7,
+    ),
+    (
+        &[1, 0xFF, 0xFF, 0xFF, 0xFF, 0xFF, 0xFF, 0xFF, 0xFF, 16],
+        &[Flag(true), None8],
+        Most(15),
+        9,
+    ),
+    (
+        &[7, 0, 9, 5, 0, 0, 0, 0, 0, 0, 0, 8],
+        &[Bytes([7, 0, 9]), Tick(5)],
+        Kept(8),
+        11,
+    ),
+];
+
+#[test]
+fn a_field_in_the_middle_fails_where_it_begins(rt: HostRuntime) {
+    for (number, (bytes, before, field, at)) in MIDDLES.iter().enumerate() {
+        let mut from = Unpacker::new(bytes);
+        let mut there = true;
+        for one in before.iter() {
+            there = matches!(taken(&mut from, *one), Ok(true)) && there;
+        }
+        let failed = match taken(&mut from, *field) {
+            Ok(_) => 99,
+            Err(Unpacked::Bad { offset }) => offset,
+            Err(Unpacked::NoMemory) => 97,
+        };
+        assert!(rt; there && failed == *at, "middle {number}: {failed}");
+    }
+}
+
 /// What is taken by a call that finds fewer bytes: nothing.
 #[test]
 fn a_take_that_finds_fewer_takes_nothing(rt: HostRuntime) {

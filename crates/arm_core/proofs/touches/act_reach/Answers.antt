@@ -1,5 +1,5 @@
 use Rattle.std.proofs.Common.{false, true, sym, subst}
-use Rattle.arm_core.specs.Footprints.{AreAsTold, GoesOver}
+use Rattle.arm_core.specs.FootprintLaws.{AreAsTold, GoesOver}
 use Rattle.arm_core.specs.Meanings.{act}
 use Rattle.arm_core.specs.Transfers.{word_or_byte_meaning}
 use Rattle.arm_core.specs.declared.addresses.Addressed.{Addressed}

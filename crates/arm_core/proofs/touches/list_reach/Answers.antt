@@ -4,7 +4,8 @@ use Rattle.ds_base.specs.declared.memories.Width.TheVariants.{Word}
 use Rattle.arm_core.specs.Registers.{register}
 use Rattle.arm_core.specs.Addressing.{list_bytes, lowest}
 use Rattle.arm_core.specs.Multiples.{multiple_meaning, transferred}
-use Rattle.arm_core.specs.Footprints.{AreAsTold, GoesOver, span, touched_bytes}
+use Rattle.arm_core.specs.FootprintLaws.{AreAsTold, GoesOver, touched_bytes}
+use Rattle.arm_core.specs.Footprints.{span}
 use Rattle.arm_core.specs.declared.touches.Reach.{Reach}
 use Rattle.arm_core.proofs.Data.{multiple_data, multiple_told}
 use Rattle.arm_core.proofs.Footprints.{multiple_over}

@@ -1,6 +1,4 @@
-use Rattle.std.proofs.Common.{◌≡◌, [], sym, subst}
-use Rattle.arm_words.specs.declared.instructions.Instr.{Instr}
-use Rattle.arm_core.specs.Meanings.{act_multiply}
+use Rattle.arm_exec.proofs.Words.{◌≡◌, [], sym, subst, Instr, act_multiply}
 use Rattle.arm_exec.proofs.acts.act_multiply.Goals as goal
 
 pub returns-in-LongMultiply-clause-registers : goal.returns-in-LongMultiply-clause-registers

@@ -1,6 +1,4 @@
-use Rattle.std.proofs.Common.{◌≡◌, [], sym, subst}
-use Rattle.arm_words.specs.declared.instructions.Instr.{Instr}
-use Rattle.arm_core.specs.Enhanced.{enhanced_meaning}
+use Rattle.arm_exec.proofs.Words.{◌≡◌, [], sym, subst, Instr, enhanced_meaning}
 use Rattle.arm_exec.proofs.enhanced.enhanced.Goals as goal
 
 pub returns-in-Smlal-clause-registers : goal.returns-in-Smlal-clause-registers

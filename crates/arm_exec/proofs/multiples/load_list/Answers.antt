@@ -1,8 +1,4 @@
-use Rattle.std.proofs.Common.{◌≡◌, true, false, refl, sym, ◌∙◌, arith}
-use Rattle.ds_base.specs.Bits.{bit}
-use Rattle.ds_base.specs.Accesses.{perform}
-use Rattle.arm_core.specs.Addressing.{listed_registers}
-use Rattle.arm_core.specs.Multiples.{reads}
+use Rattle.arm_exec.proofs.Words.{◌≡◌, true, false, refl, sym, ◌∙◌, arith, bit, perform, listed_registers, reads}
 use Rattle.arm_exec.proofs.Lists.{left_in, left_out, none_left, last_or_last}
 use Rattle.arm_exec.proofs.multiples.load_list.Goals as goal
 use Rattle.arm_exec.proofs.multiples.load_list.Goals.{then-has, else-has}

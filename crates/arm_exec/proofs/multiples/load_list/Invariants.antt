@@ -1,7 +1,4 @@
-use Rattle.std.proofs.Common.{◌≡◌}
-use Rattle.ds_base.specs.Accesses.{perform}
-use Rattle.arm_core.specs.Addressing.{listed_registers}
-use Rattle.arm_core.specs.Multiples.{reads, loaded, last_of}
+use Rattle.arm_exec.proofs.Words.{◌≡◌, perform, listed_registers, reads, loaded, last_of}
 use Rattle.arm_exec.proofs.Lists.{left, last_or}
 use Rattle.arm_exec.proofs.multiples.load_list.Given as goal
 

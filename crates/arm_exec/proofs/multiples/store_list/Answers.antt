@@ -1,8 +1,4 @@
-use Rattle.std.proofs.Common.{◌≡◌, ◌+◌, ◌%◌, ◌^◌, true, false, List, refl, sym, ◌∙◌, arith}
-use Rattle.std.specs.Prelude.{map}
-use Rattle.ds_base.specs.Bits.{bit}
-use Rattle.ds_base.specs.Accesses.{Access}
-use Rattle.arm_core.specs.Multiples.{writes, stored_value}
+use Rattle.arm_exec.proofs.Words.{◌≡◌, ◌+◌, ◌%◌, ◌^◌, true, false, List, refl, sym, ◌∙◌, arith, map, bit, Access, writes, stored_value}
 use Rattle.arm_exec.proofs.Lists.{left, left_in, left_out, none_left, refused, goes_on}
 use Rattle.arm_exec.proofs.multiples.store_list.Goals as goal
 use Rattle.arm_exec.proofs.multiples.store_list.Goals.{then-has+in_default, else-has}

@@ -1,8 +1,4 @@
-use Rattle.std.proofs.Common.{◌≡◌}
-use Rattle.std.specs.Prelude.{map}
-use Rattle.ds_base.specs.Accesses.{perform}
-use Rattle.arm_core.specs.Addressing.{listed_registers}
-use Rattle.arm_core.specs.Multiples.{writes, stored_value}
+use Rattle.arm_exec.proofs.Words.{◌≡◌, map, perform, listed_registers, writes, stored_value}
 use Rattle.arm_exec.proofs.Lists.{left}
 use Rattle.arm_exec.proofs.multiples.store_list.Given as goal
 

@@ -1,9 +1,5 @@
-use Rattle.std.proofs.Common.{rules, ◌≡◌, true, None, if◌then◌else◌, sym, ap, subst, ◌∙◌}
-use Rattle.arm_words.specs.declared.instructions.Instr.{Instr}
-use Rattle.arm_core.specs.Conditions.{holds}
-use Rattle.arm_core.specs.Effects.{carried_out}
-use Rattle.arm_core.specs.Meanings.{act, condition}
-use Rattle.arm_core.specs.Steps.{swi_stop}
+use Rattle.arm_exec.proofs.Words.{◌≡◌, true, None, if◌then◌else◌, sym, ap, subst, ◌∙◌, Instr, holds, carried_out, act, condition, swi_stop}
+use Rattle.std.proofs.Common.{rules}
 use Rattle.arm_exec.proofs.Executing.{executed_acts}
 use Rattle.arm_exec.proofs.steps.execute.Goals as goal
 

@@ -1,7 +1,6 @@
 use Rattle.ds_runs.proofs.RunLaws.{runs_join, runs_are_one}
-use Rattle.ds_runs.proofs.RunExists.{run_exists, run_ends}
-use Rattle.ds_machine.specs.Reference.{reference}
-use Rattle.ds_machine.specs.Sound.{HasSoundParts}
+use Rattle.ds_machine.proofs.Words.{run_exists, reference, HasSoundParts}
+use Rattle.ds_runs.proofs.RunExists.{run_ends}
 use Rattle.ds_machine.proofs.MachineSchedule.{reference_schedules}
 use Rattle.ds_machine.proofs.laws.reference_laws.Goals as goal
 

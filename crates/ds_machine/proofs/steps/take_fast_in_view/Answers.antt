@@ -1,14 +1,10 @@
-use Rattle.std.proofs.Common.{ℕ, ◌≡◌, ◌+◌, ◌∙◌, Bool, true, false, true≢false, refl, sym, ap}
-use Rattle.arm_core.specs.Effects.{Outcome}
-use Rattle.arm_core.specs.Steps.{enters}
-use Rattle.arm_ops.specs.Operations.{is_other}
-use Rattle.ds_machine.specs.Touching.{DataStays}
-use Rattle.ds_machine.proofs.DecodedStays.{leaves_known, stays_known}
+use Rattle.ds_machine.proofs.Words.{ℕ, ◌≡◌, ◌+◌, ◌∙◌, Bool, true, false, true≢false, refl, sym, ap, Outcome, enters, is_other, not-true, DataStays}
+use Rattle.ds_machine.proofs.Words.{data_waits}
+use Rattle.ds_machine.specs.declared.steps.Fast.{Fast}
+use Rattle.ds_machine.proofs.DecodedStays.{leaves_known, reach_told, stays_known}
 use Rattle.ds_machine.proofs.NearUnobserved.{near_known}
-use Rattle.ds_machine.specs.PrivateSides.{side_step}
-use Rattle.ds_machine.specs.Sides.{data_waits}
 use Rattle.ds_machine.proofs.Taken.{decoded_waits, taken_operation, waits_fetched}
-use Rattle.ds_machine.proofs.steps.take_fast_in_view.Goals.{else-ahead-via-then-ahead+else-not-access_stays, else-ahead-via-else-ahead}
+use Rattle.ds_machine.proofs.steps.take_fast_in_view.Goals.{else-ahead-via-then-ahead+else-not-data_stays, else-ahead-via-else-ahead}
 use Rattle.ds_machine.proofs.steps.take_fast_in_view.Goals as goal
 
 pub returns-clause-registers : goal.returns-clause-registers
@@ -37,22 +33,30 @@ returns-clause-near g c = λ some.
     near_known g.V.Side.memory g.V.Side.side (g.V.Side.state c.args.view.now) c.args.s.now c.next_operation-next.result.now c.next_operation-next.ensures.operation
     (c.run_fast-clocks.ensures.known some) (c.run_fast-clocks.ensures.near some)
 
-pub returns-then-not-access_stays-clause-leaves : goal.returns-then-not-access_stays-clause-leaves
-returns-then-not-access_stays-clause-leaves g c = λ left.
-    by_kind (is_other c.next_operation-next.result.now.op) refl where
-      by_kind : (b : Bool) → is_other c.next_operation-next.result.now.op ≡ b → DataStays g.V.Side.memory g.V.Side.side c.args.s.now (g.V.Side.state c.args.view.now) → ⊥
-      by_kind true other = absurd (true≢false (sym (c.access_stays.ensures.other other) ∙ c.if-not-access_stays.true))
-      by_kind false other =
-          leaves_known g.V.Side.memory g.V.Side.side (g.V.Side.state c.args.view.now) c.args.s.now c.next_operation-next.result.now c.access_stays.ensures.words
-          c.next_operation-next.ensures.operation other (c.access_stays.ensures.address other) (sym (c.access_stays.ensures.stays other) ∙ c.if-not-access_stays.true)
+pub returns-then-not-data_stays-clause-leaves : goal.returns-then-not-data_stays-clause-leaves
+returns-then-not-data_stays-clause-leaves g c = λ left.
+    (let one : c.lists-lists.result ≡ false = not-true c.lists-lists.result (sym (ap (λ (f : Fast). f.leaves) c.not_taken-then-not-data_stays.ensures) ∙ left) in
+    by_other one (is_other c.next_operation-next.result.now.op) refl) where
+      by_other : c.lists-lists.result ≡ false → (b : Bool) → is_other c.next_operation-next.result.now.op ≡ b
+          → DataStays g.V.Side.memory g.V.Side.side c.args.s.now (g.V.Side.state c.args.view.now) → ⊥
+      by_other one true other = absurd (true≢false (sym (c.data_stays.ensures.other one other) ∙ c.if-not-data_stays.true))
+      by_other one false other =
+          leaves_known g.V.Side.memory g.V.Side.side (g.V.Side.state c.args.view.now) c.args.s.now c.next_operation-next.result.now c.data_stays.ensures.words
+          c.next_operation-next.ensures.operation other (c.data_stays.ensures.address one) (sym (c.data_stays.ensures.stays one) ∙ c.if-not-data_stays.true)
+
+by_kind : {A : Type 0} (b : Bool) → (b ≡ true → A) → (b ≡ false → A) → A
+by_kind true h k = h refl
+by_kind false h k = k refl
 
 pub returns-clause-stays : goal.returns-clause-stays
 returns-clause-stays g c = λ ahead some.
     elim c.else-ahead.branch [
-      | else-ahead-via-then-ahead+else-not-access_stays w ↦
-          stays_known g.V.Side.memory g.V.Side.side (g.V.Side.state c.args.view.now) c.args.s.now c.next_operation-next.result.now w.access_stays.ensures.words
-          c.next_operation-next.ensures.operation (c.run_fast-clocks.ensures.known some) (w.access_stays.ensures.address (c.run_fast-clocks.ensures.known some))
-          (sym (w.access_stays.ensures.stays (c.run_fast-clocks.ensures.known some)) ∙ w.if-not-access_stays.false)
+      | else-ahead-via-then-ahead+else-not-data_stays w ↦
+          stays_known g.V.Side.memory g.V.Side.side (g.V.Side.state c.args.view.now) c.args.s.now c.next_operation-next.result.now
+          c.next_operation-next.ensures.operation (c.run_fast-clocks.ensures.known some)
+          (by_kind c.lists-lists.result (λ lists. w.data_stays.ensures.list lists w.if-not-data_stays.false)
+          (λ one. reach_told g.V.Side.side (g.V.Side.state c.args.view.now) c.args.s.now c.next_operation-next.result.now w.data_stays.ensures.words
+          (c.run_fast-clocks.ensures.told (sym c.lists-lists.ensures ∙ one) some) (w.data_stays.ensures.address one) (sym (w.data_stays.ensures.stays one) ∙ w.if-not-data_stays.false)))
       | else-ahead-via-else-ahead w ↦ absurd (true≢false (sym ahead ∙ w.if-ahead.false))
     ]
 
@@ -67,5 +71,5 @@ returns-clause-waits g c = λ some.
     let none : enters c.args.line s ≡ false = sym c.if-enters.ensures in
     ap (λ (n : ℕ). first + n) (c.waited.ensures ∙ c.run_fast-clocks.ensures.waits some
     ∙ decoded_waits memory side s state next (c.run_fast-clocks.ensures.known some) c.next_operation-next.ensures.operation)
-    ∙ ap (λ (n : ℕ). n + data_waits memory (side_step side) s state) c.next_fetch-fetch.ensures.waits
+    ∙ ap (λ (n : ℕ). n + data_waits memory side.step s state) c.next_fetch-fetch.ensures.waits
     ∙ sym (waits_fetched memory side c.args.line s state none))

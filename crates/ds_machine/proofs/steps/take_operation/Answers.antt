@@ -1,5 +1,4 @@
-use Rattle.std.proofs.Common.{◌∙◌, sym, ap}
-use Rattle.arm_core.specs.Effects.{Outcome}
+use Rattle.ds_machine.proofs.Words.{◌∙◌, sym, ap, Outcome, run_is_decoded}
 use Rattle.ds_machine.proofs.Taken.{decoded_waits, taken_operation}
 use Rattle.ds_machine.proofs.steps.take_operation.Goals as goal
 
@@ -21,4 +20,4 @@ returns-clause-stepped g c =
 pub returns-clause-waits : goal.returns-clause-waits
 returns-clause-waits g c =
     c.run.ensures.waits
-    ∙ decoded_waits g.V.Side.memory g.V.Side.side c.args.s.now (g.V.Side.state c.args.view.now) c.args.next.now c.requires.known c.requires.operation
+    ∙ decoded_waits g.V.Side.memory g.V.Side.side c.args.s.now (g.V.Side.state c.args.view.now) c.args.next.now (run_is_decoded c.args.next.now.op c.requires.known) c.requires.operation

@@ -1,8 +1,4 @@
-use Rattle.std.proofs.Common.{Option, ◌∙◌, sym, ap}
-use Rattle.arm_words.specs.declared.instructions.Instr.{Instr}
-use Rattle.ds_map.specs.Waits.{waits_of}
-use Rattle.ds_machine.specs.Sides.{data_accesses}
-use Rattle.arm_core.specs.Effects.{Outcome}
+use Rattle.ds_machine.proofs.Words.{Option, ◌∙◌, sym, ap, Instr, waits_of, data_accesses, Outcome}
 use Rattle.ds_machine.proofs.Taken.{taken_executed}
 use Rattle.ds_machine.proofs.steps.take_other.Goals as goal
 
@@ -27,5 +23,5 @@ returns-clause-stepped g c =
 pub returns-clause-waits : goal.returns-clause-waits
 returns-clause-waits g c =
     c.execute.ensures.waits
-    ∙ ap (λ (i : Option Instr). waits_of g.V.Side.memory g.V.Side.side.wait (g.V.Side.state c.args.view.now)
-    (data_accesses g.V.Side.side.arch (g.V.Side.side.base (g.V.Side.state c.args.view.now)) c.args.s.now i)) c.next_decoded-next.ensures.instr
+    ∙ ap (λ (i : Option Instr). waits_of g.V.Side.memory g.V.Side.side.step.wait (g.V.Side.state c.args.view.now)
+    (data_accesses g.V.Side.side.step.arch (g.V.Side.side.step.base (g.V.Side.state c.args.view.now)) c.args.s.now i)) c.next_decoded-next.ensures.instr

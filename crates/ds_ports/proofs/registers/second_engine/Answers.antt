@@ -1,9 +1,7 @@
-use Rattle.std.proofs.Common.{sym, ◌∙◌, ap}
-use Rattle.ds_ports.specs.Parts.{slot_from}
+use Rattle.ds_ports.proofs.Words.{sym, ◌∙◌, ap, slot_from, B}
 use Rattle.ds_ports.proofs.DisplayRows.{among_rows}
 use Rattle.ds_ports.proofs.registers.second_engine.Goals as goal
 use Rattle.video2d.specs.DisplayRegisters.{engine_registers}
-use Rattle.video2d.specs.declared.engines.Engine.TheVariants.{B}
 
 pub returns-in-Nine : goal.returns-in-Nine
 returns-in-Nine c =

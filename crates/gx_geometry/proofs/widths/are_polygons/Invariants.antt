@@ -1,5 +1,5 @@
 use Rattle.std.proofs.Common.{ℕ, ◌<◌, slice_index_or}
-use Rattle.gx_geometry.specs.Bounds.{no_polygon}
+use Rattle.gx_geometry.specs.BoundLaws.{no_polygon}
 use Rattle.gx_geometry.specs.SavedKept.{FitsPolygon}
 use Rattle.gx_geometry.proofs.widths.are_polygons.Given as goal
 

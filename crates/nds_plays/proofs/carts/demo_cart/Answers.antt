@@ -1,5 +1,4 @@
-use Rattle.std.proofs.Common.{sym, subst}
-use Rattle.ds_header.specs.Rules.{IsAccepted}
+use Rattle.nds_plays.proofs.Words.{sym, subst, IsAccepted}
 use Rattle.nds_plays.proofs.Bodies.{all_put, demo_accepted}
 use Rattle.nds_plays.proofs.carts.demo_cart.Goals as goal
 

@@ -1,7 +1,4 @@
-use Rattle.std.proofs.Common.{ℕ, ◌≡◌, ap, ◌∙◌, ◌++◌, List, flat_map, map, arith}
-use Rattle.std.specs.List.{range_with_len}
-use Rattle.byteorder.specs.Endian.{little_bytes}
-use Rattle.nds_plays.specs.Demos.{drawn, body}
+use Rattle.nds_plays.proofs.Words.{ℕ, ◌≡◌, ap, ◌∙◌, ◌++◌, List, flat_map, map, arith, range_with_len, little_bytes, drawn, body}
 use Rattle.nds_plays.proofs.Bodies.{nothing_put, one_more, word_at, word_more, body_whole}
 use Rattle.nds_plays.proofs.carts.put_body.Goals as goal
 

@@ -1,7 +1,4 @@
-use Rattle.std.proofs.Common.{◌≡◌, ◌++◌, flat_map, map}
-use Rattle.std.specs.List.{range_with_len}
-use Rattle.byteorder.specs.Endian.{little_bytes}
-use Rattle.nds_plays.specs.Demos.{drawn}
+use Rattle.nds_plays.proofs.Words.{◌≡◌, ◌++◌, flat_map, map, range_with_len, little_bytes, drawn}
 use Rattle.nds_plays.proofs.Bodies.{word_at}
 use Rattle.nds_plays.proofs.carts.put_body.Given as goal
 

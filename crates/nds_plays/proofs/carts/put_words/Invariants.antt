@@ -1,5 +1,4 @@
-use Rattle.std.proofs.Common.{◌≡◌, ◌++◌, flat_map, take}
-use Rattle.byteorder.specs.Endian.{little_bytes}
+use Rattle.nds_plays.proofs.Words.{◌≡◌, ◌++◌, flat_map, take, little_bytes}
 use Rattle.nds_plays.proofs.carts.put_words.Given as goal
 
 -- the words so far were put

@@ -1,8 +1,7 @@
-use Rattle.std.proofs.Common.{ℕ, ◌+◌, ◌++◌, ◌∷◌, [], List, length-set, slice_index, refl, sym, ◌∙◌, ap}
+use Rattle.nds_plays.proofs.Words.{ℕ, ◌+◌, ◌++◌, ◌∷◌, [], List, refl, sym, ◌∙◌, ap, map-range_with_len_more, bytes_at}
+use Rattle.std.proofs.Common.{length-set, slice_index}
 use Rattle.std.proofs.lemmas.List.{take_more_set}
-use Rattle.std.proofs.lemmas.List.FromFn.{map-range_with_len_more}
 use Rattle.ds_machine.specs.Inspections.{memory_of}
-use Rattle.nds_plays.specs.Watches.{bytes_at}
 use Rattle.nds_plays.proofs.peeks.copy.Goals as goal
 
 pub loop-i-preserved : goal.loop-i-preserved

@@ -1,5 +1,4 @@
-use Rattle.std.proofs.Common.{◌≡◌, length, take}
-use Rattle.nds_plays.specs.Watches.{bytes_at}
+use Rattle.nds_plays.proofs.Words.{◌≡◌, length, take, bytes_at}
 use Rattle.nds_plays.proofs.peeks.copy.Given as goal
 
 -- the bytes so far were taken

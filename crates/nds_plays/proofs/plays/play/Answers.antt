@@ -1,10 +1,6 @@
-use Rattle.std.proofs.Common.{Option, sym, ◌∙◌, ◌++◌, subst}
-use Rattle.ds_base.specs.declared.left_out.LeftOut.{LeftOut}
-use Rattle.nds_plays.specs.Inside.{ending, shown_after}
-use Rattle.nds_plays.specs.Plays.{Wrote}
-use Rattle.nds_plays.specs.Records.{last_records, latest_of}
-use Rattle.ds_io.proofs.Putting.{rose_within}
-use Rattle.nds_plays.proofs.Playing.{all_written, front_written, put_whole, so_of_ok}
+use Rattle.nds_plays.proofs.Words.{Option, sym, ◌∙◌, ◌++◌, ap, subst, LeftOut, Appended, ending, shown_after, Wrote, last_records, latest_of}
+use Rattle.nds_plays.proofs.Words.{rose_within}
+use Rattle.nds_plays.proofs.Playing.{WroteShort, all_written, front_written, put_whole, so_of_ok}
 use Rattle.ds_io.proofs.Putting.{puts_failed}
 use Rattle.nds_plays.proofs.plays.play.Goals as goal
 
@@ -28,11 +24,14 @@ returns-in-None-clause-played g c =
     c.run_to.new.out c.put_records.new.out c.put_records.result c.put_records.ensures.put made in
     let few = so_of_ok c.put_records.result c.put_records.ensures.few made in
     let wrote = all_written g.O.Sink.tells g.O.Sink.taken c.args.until.0 c.args.keep c.args.console.now c.in-Ok.stop new c.args.out.now c.run_to.new.out c.put_records.new.out ran.0 ran.1
-    c.requires.early c.laws.ensures.parts c.frame_laws.ensures.few ran.2 few put in (
-      subst (λ (o : Option LeftOut). Wrote g.O.Sink.tells g.O.Sink.taken c.args.until.0 c.args.keep c.args.console.now (ending o new.machine) new c.args.out.now c.put_records.new.out) c.in-None.is wrote,
+    c.requires.early c.laws.ensures.parts c.frame_laws.ensures.few ran.2 few put in
+    let same = subst (WroteShort g.O.Sink.tells g.O.Sink.taken c.args.until.0 c.args.keep c.args.console.now c.in-Ok.stop new c.args.out.now c.run_to.new.out c.put_records.new.out ran.0 ran.1)
+    (ap (λ (o : Option LeftOut). ending o new.machine) c.in-None.is) wrote in (
+      same.0,
       ran.0.stopped ∙ c.in-None.is,
       ran.0.limit,
       ran.0.turned,
+      same.1,
     )
 
 pub returns-in-Some-clause-played : goal.returns-in-Some-clause-played
@@ -45,7 +44,7 @@ returns-in-Some-clause-played g c =
     let few = so_of_ok c.put_records.result c.put_records.ensures.few made in
     let wrote = all_written g.O.Sink.tells g.O.Sink.taken c.args.until.0 c.args.keep c.args.console.now c.in-Ok.stop new c.args.out.now c.run_to.new.out c.put_records.new.out ran.0 ran.1
     c.requires.early c.laws.ensures.parts c.frame_laws.ensures.few ran.2 few put in (
-      subst (λ (o : Option LeftOut). Wrote g.O.Sink.tells g.O.Sink.taken c.args.until.0 c.args.keep c.args.console.now (ending o new.machine) new c.args.out.now c.put_records.new.out) c.in-Some.is wrote,
+      subst (λ (o : Option LeftOut). Wrote (Appended g.O.Sink.tells g.O.Sink.taken c.args.out.now c.put_records.new.out) c.args.until.0 c.args.keep c.args.console.now (ending o new.machine) new) c.in-Some.is wrote.0,
       ran.0.stopped ∙ c.in-Some.is,
       ran.0.turned,
     )

@@ -1,6 +1,4 @@
-use Rattle.nds_plays.specs.Inside.{ending, shown_after}
-use Rattle.nds_plays.specs.Records.{last_records, latest_of}
-use Rattle.ds_io.proofs.Putting.{puts_then}
+use Rattle.nds_plays.proofs.Words.{ending, shown_after, last_records, latest_of, puts_then}
 use Rattle.nds_plays.proofs.plays.put_records.Goals as goal
 
 pub returns-clause-put : goal.returns-clause-put

@@ -1,6 +1,4 @@
-use Rattle.std.proofs.lemmas.Result.{err_from_is_err_and}
-use Rattle.ds_io.proofs.SinkLemmas.{append_none}
-use Rattle.ds_io.proofs.Putting.{rose_within}
+use Rattle.nds_plays.proofs.Words.{err_from_is_err_and, append_none, rose_within}
 use Rattle.nds_plays.proofs.Playing.{writing_first, writing_shown, front_at, writing_over, writing_stopped}
 use Rattle.nds_plays.proofs.plays.run_to.Goals as goal
 

@@ -1,4 +1,4 @@
-use Rattle.run_ahead.specs.Turns.{turns_remaining}
+use Rattle.run_ahead.specs.TurnLaws.{turns_remaining}
 use Rattle.nds_plays.proofs.Playing.{Writing}
 use Rattle.nds_plays.proofs.plays.run_to.Given as goal
 

@@ -1,10 +1,4 @@
-use Rattle.std.proofs.Common.{ℕ, List, [], ◌∷◌, ◌++◌, subst}
-use Rattle.std.proofs.lemmas.Result.{err_from_is_err_and}
-use Rattle.ds_io.specs.Sinks.{AppendedFront}
-use Rattle.ds_io.proofs.SinkLemmas.{front_of_more}
-use Rattle.ds_io.specs.Puts.{Puts}
-use Rattle.nds_records.specs.Numbers.{halves, longs}
-use Rattle.ds_io.proofs.Putting.{puts_then}
+use Rattle.nds_plays.proofs.Words.{ℕ, List, [], ◌∷◌, ◌++◌, subst, err_from_is_err_and, AppendedFront, front_of_more, Puts, halves, longs, puts_then}
 use Rattle.nds_plays.proofs.Framing.{frame_split}
 use Rattle.nds_plays.proofs.records.put_frame.Goals as goal
 

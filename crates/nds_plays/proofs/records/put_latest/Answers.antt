@@ -1,8 +1,4 @@
-use Rattle.std.specs.Prelude.{option_to_list}
-use Rattle.ds_machine.specs.Frames.{last_frame, last_lists}
-use Rattle.nds_records.specs.Lists.{lists_records}
-use Rattle.nds_plays.specs.Records.{frame_records}
-use Rattle.ds_io.proofs.Putting.{puts_then}
+use Rattle.nds_plays.proofs.Words.{option_to_list, last_frame, last_lists, lists_records, frame_records, puts_then}
 use Rattle.nds_plays.proofs.records.put_latest.Goals as goal
 
 pub returns-clause-put : goal.returns-clause-put

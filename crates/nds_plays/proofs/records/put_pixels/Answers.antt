@@ -1,8 +1,5 @@
-use Rattle.std.proofs.Common.{ℕ, ◌+◌, ◌*◌, List, ◌++◌, take, drop, sym, subst, arith}
-use Rattle.std.proofs.lemmas.Result.{err_from_is_err_and}
-use Rattle.ds_io.specs.Sinks.{Appended, AppendedFront}
-use Rattle.ds_io.proofs.SinkLemmas.{append_none, append_twice, front_after, front_of_more}
-use Rattle.nds_records.specs.Numbers.{halves}
+use Rattle.nds_plays.proofs.Words.{ℕ, ◌+◌, ◌*◌, List, ◌++◌, take, drop, sym, subst, arith, err_from_is_err_and, Appended, AppendedFront, append_none}
+use Rattle.nds_plays.proofs.Words.{append_twice, front_after, front_of_more, halves}
 use Rattle.nds_plays.proofs.Rows.{halves_none, row_lent, rows_more, rows_whole}
 use Rattle.nds_plays.proofs.records.put_pixels.Goals as goal
 

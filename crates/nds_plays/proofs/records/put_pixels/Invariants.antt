@@ -1,6 +1,4 @@
-use Rattle.std.proofs.Common.{◌≤◌, ◌*◌, take}
-use Rattle.ds_io.specs.Sinks.{Appended}
-use Rattle.nds_records.specs.Numbers.{halves}
+use Rattle.nds_plays.proofs.Words.{◌≤◌, ◌*◌, take, Appended, halves}
 use Rattle.nds_plays.proofs.records.put_pixels.Given as goal
 
 -- the rows so far were written

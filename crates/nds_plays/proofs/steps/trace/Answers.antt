@@ -1,9 +1,5 @@
-use Rattle.std.proofs.Common.{ℕ, ◌<◌, ◌≤◌, ◌+◌, refl, ◌∙◌, ap, arith}
-use Rattle.ds_io.proofs.SinkLemmas.{append_none}
+use Rattle.nds_plays.proofs.Words.{ℕ, ◌<◌, ◌≤◌, ◌+◌, refl, ◌∙◌, ap, arith, append_none, dues_of, ConsoleState, IsTickBefore}
 use Rattle.ds_runs.proofs.RunLaws.{over_here}
-use Rattle.ds_machine.specs.Reference.{dues_of}
-use Rattle.run_ahead.specs.Consoles.{ConsoleState}
-use Rattle.run_ahead.specs.TickTurns.{IsTickBefore}
 use Rattle.nds_plays.proofs.Leads.{turn_leads, turn_stops}
 use Rattle.nds_plays.proofs.Tracing.{counts_down, tracing_first, tracing_on, tracing_full, tracing_over, tracing_stopped, tracing_failed}
 use Rattle.nds_plays.proofs.steps.trace.Goals as goal

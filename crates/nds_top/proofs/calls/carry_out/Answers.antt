@@ -7,3 +7,15 @@ returns-in-Trace-clause-answer g c = rw (c.in-Trace.is, c.requires.empty) c.trac
 -- src/calls.rt:66:1
 pub returns-in-Resume-clause-answer : goal.returns-in-Resume-clause-answer
 returns-in-Resume-clause-answer g c = rw c.in-Resume.is c.resume.ensures.answer
+
+-- src/calls.rt:76:1
+pub returns-in-Run-clause-answer : goal.returns-in-Run-clause-answer
+returns-in-Run-clause-answer g c = rw c.in-Run.is c.run.ensures.answer
+
+-- src/calls.rt:76:1
+pub returns-in-Peek-clause-answer : goal.returns-in-Peek-clause-answer
+returns-in-Peek-clause-answer g c = rw c.in-Peek.is c.peek.ensures.answer
+
+-- src/calls.rt:76:1
+pub returns-in-Save-clause-answer : goal.returns-in-Save-clause-answer
+returns-in-Save-clause-answer g c = rw c.in-Save.is c.save.ensures.answer

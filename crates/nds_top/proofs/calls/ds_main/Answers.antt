@@ -1,6 +1,5 @@
-use Rattle.std.proofs.Common.{[], refl}
-use Rattle.nds_words.specs.Commands.{asked_by}
-use Rattle.nds_top.specs.Answers.{nothing, command}
+use Rattle.nds_top.proofs.Words.{[], refl, nothing, command}
+use Rattle.nds_words.specs.CommandLaws.{asked_by}
 use Rattle.nds_top.proofs.calls.ds_main.Goals as goal
 
 pub returns-in-None : goal.returns-in-None

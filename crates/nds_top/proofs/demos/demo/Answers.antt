@@ -1,14 +1,7 @@
-use Rattle.std.proofs.Common.{refl, sym, ◌≡◌, ◌∙◌, ap, subst, Some, List, ℕ, []}
-use Rattle.std.proofs.lemmas.Option.{same_Some}
-use Rattle.ds_base.specs.declared.keys.KeyLine.{KeyLine}
-use Rattle.ds_machine.specs.Booted.{machine_booted}
+use Rattle.nds_top.proofs.Words.{inl, refl, sym, ◌≡◌, ◌∙◌, ap, subst, Some, List, ℕ, [], same_Some, KeyLine, machine_booted, ConsoleState, Status}
+use Rattle.nds_top.proofs.Words.{around, switched_on, WritesAfter, demo_of, played_status, DemoGives, demo_booted}
 use Rattle.nds_plays.specs.Demos.{demo_file}
-use Rattle.run_ahead.specs.Consoles.{ConsoleState}
-use Rattle.nds_answers.specs.declared.statuses.Status.{Status}
-use Rattle.nds_plays.specs.Calls.{around, switched_on}
-use Rattle.nds_plays.specs.Watches.{WritesAfter, demo_of}
-use Rattle.nds_top.specs.ViewAnswers.{DemoGives, demo_booted}
-use Rattle.nds_top.proofs.Viewing.{demo_done, wrote_in}
+use Rattle.nds_top.proofs.Viewing.{wrote_in}
 use Rattle.nds_top.proofs.demos.demo.Goals as goal
 
 pub returns : goal.returns
@@ -22,6 +15,6 @@ returns g c =
     let P : ConsoleState → Type 0 = λ k. WritesAfter g.O.Sink.tells g.O.Sink.taken g.O.Sink.faults ticks (demo_of number ticks k.machine) k c.args.out.now c.demo-played.result c.demo-played.new.console c.demo-played.new.out in
     let wrote = wrote_in g.F.Shelf.told g.F.Shelf.faults g.O.Sink.tells g.O.Sink.taken g.O.Sink.faults c.args.shelf.now c.args.shelf.now c.args.out.now c.demo-played.new.out
     ticks (demo_of number ticks (demo_booted number)) (demo_file number) [] boot c.demo-played.new.console c.demo-played.result c.turn_laws.ensures.add refl (subst P is c.demo-played.ensures) in
-    let gives = demo_done call number ticks c.demo-played.result wrote in
     let Q : Status → Type 0 = λ s. DemoGives call number ticks s in
+    let gives : Q (played_status c.demo-played.result) = inl wrote in
     subst Q (sym c.status_of.ensures) gives

@@ -1,7 +1,7 @@
-use Rattle.nds_plays.specs.Calls.{around}
-use Rattle.nds_plays.specs.States.{saved_state}
+use Rattle.nds_top.proofs.Words.{around, saved_state}
 use Rattle.nds_top.proofs.GoingOn.{goes_on, saved_at}
 use Rattle.nds_top.proofs.OneAnswer.{TopLaws, answers_one, completes}
+use Rattle.nds_top.proofs.Written.{none_written}
 use Rattle.nds_top.proofs.laws.top_laws.Goals as goal
 
 pub returns-clause-complete : goal.returns-clause-complete
@@ -23,7 +23,8 @@ returns-clause-complete g c =
       lines = c.trace_laws.ensures;
     } in
     λ shelf_old shelf_new old new seat files words asked named status told none asks can gives.
-    completes laws (around g.F.Shelf.told g.F.Shelf.faults g.O.Sink.tells g.O.Sink.taken g.O.Sink.faults shelf_old shelf_new old new seat) files words asked named status told none asks can gives
+    completes laws (around g.F.Shelf.told g.F.Shelf.faults g.O.Sink.tells g.O.Sink.taken g.O.Sink.faults shelf_old shelf_new old new seat) files words asked named status told none
+    (none_written g.O.Sink.tells g.O.Sink.taken old new) asks can gives
 
 pub returns-clause-one : goal.returns-clause-one
 returns-clause-one g c =
@@ -45,8 +46,8 @@ returns-clause-one g c =
     } in
     λ shelf_old shelf_new shelf_old₂ shelf_new₂ old new old₂ new₂ seat seat₂ files words named named₂ status status₂ told told₂ none none₂ ne ne₂ gives gives₂.
     answers_one laws (around g.F.Shelf.told g.F.Shelf.faults g.O.Sink.tells g.O.Sink.taken g.O.Sink.faults shelf_old shelf_new old new seat)
-    (around g.F.Shelf.told g.F.Shelf.faults g.P.Sink.tells g.P.Sink.taken g.P.Sink.faults shelf_old₂ shelf_new₂ old₂ new₂ seat₂) files words named named₂ status status₂ told told₂ none none₂ ne ne₂
-    gives gives₂
+    (around g.F.Shelf.told g.F.Shelf.faults g.P.Sink.tells g.P.Sink.taken g.P.Sink.faults shelf_old₂ shelf_new₂ old₂ new₂ seat₂) files words named named₂ status status₂ told told₂ none none₂
+    (none_written g.O.Sink.tells g.O.Sink.taken old new) (none_written g.P.Sink.tells g.P.Sink.taken old₂ new₂) ne ne₂ gives gives₂
 
 pub returns-clause-resumed : goal.returns-clause-resumed
 returns-clause-resumed g c =
@@ -75,5 +76,6 @@ returns-clause-resumed g c =
           goes_on laws c.cut_laws.ensures c.time_laws.ensures.keys c.touch_laws.ensures.file c.state_laws.ensures.short call
           (around g.F.Shelf.told g.F.Shelf.faults g.P.Sink.tells g.P.Sink.taken g.P.Sink.faults shelf_old₂ shelf_new₂ old₂ new₂ seat₂)
           (around g.F.Shelf.told g.F.Shelf.faults g.Q.Sink.tells g.Q.Sink.taken g.Q.Sink.faults shelf_old₃ shelf_new₃ old₃ new₃ seat₃) files files₂ files₃ words₂ words₃ cart state cart₂ cart₃ keys keys₂ keys₃
-          first later keep named₂ named₃ status status₂ w told₂ told₃ none none₂ asks₂ asks₃ lt there same same₂ ne ne₂ given₂ given₃,
+          first later keep named₂ named₃ status status₂ w told₂ told₃ none none₂
+          (none_written g.P.Sink.tells g.P.Sink.taken old₂ new₂) (none_written g.Q.Sink.tells g.Q.Sink.taken old₃ new₃) asks₂ asks₃ lt there same same₂ ne ne₂ given₂ given₃,
     ))

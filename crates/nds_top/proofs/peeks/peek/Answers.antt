@@ -1,17 +1,9 @@
-use Rattle.std.proofs.Common.{refl, sym, subst, option_map, Some}
-use Rattle.nds_answers.specs.declared.statuses.Status.{Status}
-use Rattle.nds_plays.specs.Calls.{around}
-use Rattle.nds_plays.proofs.Seating.{seated_is}
-use Rattle.nds_plays.specs.Watches.{peeked}
-use Rattle.nds_top.specs.ViewAnswers.{GivesBy, WroteAfter}
-use Rattle.nds_top.proofs.Viewing.{gives_done, gives_refused, wrote_in}
+use Rattle.nds_top.proofs.Words.{inl, inr, refl, sym, subst, option_map, Some, Status, GivesBy, around, seated_is, peeked, played_status, WroteAfter}
+use Rattle.nds_top.proofs.Viewing.{wrote_in}
 use Rattle.nds_top.proofs.peeks.peek.Goals as goal
 
 pub returns-in-Err-clause-answer : goal.returns-in-Err-clause-answer
-returns-in-Err-clause-answer g c =
-    let call = around g.F.Shelf.told g.F.Shelf.faults g.O.Sink.tells g.O.Sink.taken g.O.Sink.faults c.args.shelf.now c.seat_run.new.shelf c.args.out.now c.args.out.now c.seat_run.new.seat in
-    gives_refused call c.args.files.cart.now (option_map (λ name. name.now) c.args.files.keys) (WroteAfter call c.args.ticks (peeked c.args.memory c.args.place c.args.count)) c.in-Err.ended.file.now c.in-Err.ended.status
-    (refl, c.in-Err.ensures.none) c.in-Err.ensures.err
+returns-in-Err-clause-answer g c = inr ((refl, c.in-Err.ensures.none), c.in-Err.ensures.err)
 
 pub returns-clause-answer : goal.returns-clause-answer
 returns-clause-answer g c =
@@ -22,6 +14,6 @@ returns-clause-answer g c =
     let call = around g.F.Shelf.told g.F.Shelf.faults g.O.Sink.tells g.O.Sink.taken g.O.Sink.faults c.args.shelf.now c.seat_run.new.shelf c.args.out.now c.peek-played.new.out (Some c.peek-played.new.console) in
     let t = wrote_in g.F.Shelf.told g.F.Shelf.faults g.O.Sink.tells g.O.Sink.taken g.O.Sink.faults c.args.shelf.now c.seat_run.new.shelf c.args.out.now c.peek-played.new.out
     c.args.ticks bytes on.0 on.1 c.in-Some.console c.peek-played.new.console c.peek-played.result c.turn_laws.ensures.add (seated_is _ name keys c.seat_run.new.seat c.in-Some.console on c.in-Some.is) c.peek-played.ensures in
-    let gives = gives_done call name keys (WroteAfter call c.args.ticks bytes) name c.peek-played.result (on.0, on.1, on.2, on.3, t) in
-    let P : Status → Type 0 = λ s. GivesBy call name keys (WroteAfter call c.args.ticks bytes) name s in
+    let P : Status → Type 0 = λ s. GivesBy call name keys (WroteAfter call c.args.ticks bytes s) name s in
+    let gives : P (played_status c.peek-played.result) = inl (on.0, on.1, on.2, on.3, t) in
     subst P (sym c.status_of-status.ensures) gives

@@ -1,16 +1,24 @@
-use Rattle.std.proofs.Common.{refl, option_map}
-use Rattle.nds_plays.specs.Calls.{around}
-use Rattle.nds_top.proofs.Answering.{runs_give}
-use Rattle.nds_top.proofs.Running.{refused_gives}
+use Rattle.nds_top.proofs.Words.{inl, inr, refl, option_map, subst, machine_booted, ConsoleState, switched_on, seated_is, RunsSo}
+use Rattle.nds_top.proofs.Answering.{ran_from}
+use Rattle.nds_top.proofs.Running.{at_ticks}
 use Rattle.nds_top.proofs.runs.run.Goals as goal
 
 pub returns-in-Err-clause-answer : goal.returns-in-Err-clause-answer
-returns-in-Err-clause-answer g c =
-    let call = around g.F.Shelf.told g.F.Shelf.faults g.O.Sink.tells g.O.Sink.taken g.O.Sink.faults c.args.shelf.now c.seat_run.new.shelf c.args.out.now c.args.out.now c.seat_run.new.seat in
-    refused_gives call c.args.files.cart.now (option_map (λ name. name.now) c.args.files.keys) c.args.ticks c.args.keep c.in-Err.ended.file.now c.in-Err.ended.status (refl, c.in-Err.ensures.none) c.in-Err.ensures.err
+returns-in-Err-clause-answer g c = inr ((refl, c.in-Err.ensures.none), c.in-Err.ensures.err)
 
 pub returns-clause-answer : goal.returns-clause-answer
 returns-clause-answer g c =
-    runs_give g.F.Shelf.told g.F.Shelf.faults g.O.Sink.tells g.O.Sink.taken g.O.Sink.faults c.args.shelf.now c.seat_run.new.shelf c.args.out.now c.run_seated-status.new.out
-    c.args.files.cart.now (option_map (λ name. name.now) c.args.files.keys) c.args.ticks c.args.keep c.seat_run.new.seat c.in-Some.console c.run_seated-status.new.console c.run_seated-status.result
-    c.turn_laws.ensures.add c.in_default.ensures.ok c.in-Some.is c.run_seated-status.ensures
+    let on = c.in_default.ensures.ok in
+    let start = switched_on (machine_booted on.0 on.1) in
+    let console = c.run_seated-status.new.console in
+    let is = seated_is _ c.args.files.cart.now (option_map (λ name. name.now) c.args.files.keys) c.seat_run.new.seat c.in-Some.console on c.in-Some.is in
+    let ran = subst (λ (k : ConsoleState). RunsSo g.O.Sink.tells g.O.Sink.taken g.O.Sink.faults c.args.ticks c.args.keep k c.args.out.now c.run_seated-status.result console c.run_seated-status.new.out)
+    is c.run_seated-status.ensures in
+    inl (
+      on.0,
+      on.1,
+      on.2,
+      on.3,
+      ran_from g.F.Shelf.told g.F.Shelf.faults g.O.Sink.tells g.O.Sink.taken g.O.Sink.faults c.args.shelf.now c.seat_run.new.shelf c.args.out.now c.run_seated-status.new.out
+          c.args.ticks c.args.keep start console c.run_seated-status.result c.turn_laws.ensures.add (λ limit e. at_ticks limit c.args.ticks e) ran,
+    )

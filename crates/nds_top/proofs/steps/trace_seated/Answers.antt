@@ -1,16 +1,10 @@
-use Rattle.std.proofs.Common.{refl, sym, subst, option_map, None}
-use Rattle.ds_machine.specs.Booted.{machine_booted}
-use Rattle.nds_answers.specs.declared.statuses.Status.{Status}
-use Rattle.nds_plays.specs.Calls.{around}
-use Rattle.nds_plays.proofs.Seating.{seated_is}
-use Rattle.nds_top.specs.ViewAnswers.{GivesBy, TracedBy}
-use Rattle.nds_top.proofs.Viewing.{gives_done, gives_refused, traced_in}
+use Rattle.nds_top.proofs.Words.{inl, inr, refl, sym, subst, option_map, None, machine_booted, Status, GivesBy, around, seated_is, played_status}
+use Rattle.nds_top.proofs.Words.{TracedBy}
+use Rattle.nds_top.proofs.Viewing.{traced_in}
 use Rattle.nds_top.proofs.steps.trace_seated.Goals as goal
 
 pub returns-in-Err-clause-answer : goal.returns-in-Err-clause-answer
-returns-in-Err-clause-answer g c =
-    let call = around g.F.Shelf.told g.F.Shelf.faults g.O.Sink.tells g.O.Sink.taken g.O.Sink.faults c.args.shelf.now c.seat_run.new.shelf c.args.out.now c.args.out.now None in
-    gives_refused call c.args.files.cart.now (option_map (λ name. name.now) c.args.files.keys) (TracedBy call c.args.ticks c.args.proc c.args.count) c.in-Err.ended.file.now c.in-Err.ended.status (refl, refl) c.in-Err.ensures.err
+returns-in-Err-clause-answer g c = inr ((refl, refl), c.in-Err.ensures.err)
 
 pub returns-clause-answer : goal.returns-clause-answer
 returns-clause-answer g c =
@@ -20,6 +14,6 @@ returns-clause-answer g c =
     let call = around g.F.Shelf.told g.F.Shelf.faults g.O.Sink.tells g.O.Sink.taken g.O.Sink.faults c.args.shelf.now c.seat_run.new.shelf c.args.out.now c.trace-played.new.out None in
     let t = traced_in g.F.Shelf.told g.F.Shelf.faults g.O.Sink.tells g.O.Sink.taken g.O.Sink.faults c.args.shelf.now c.seat_run.new.shelf c.args.out.now c.trace-played.new.out
     c.args.ticks c.args.proc c.args.count (machine_booted on.0 on.1) c.in-Some.console c.trace-played.result (seated_is _ name keys c.seat_run.new.seat c.in-Some.console on c.in-Some.is) c.trace-played.ensures in
-    let gives = gives_done call name keys (TracedBy call c.args.ticks c.args.proc c.args.count) name c.trace-played.result (on.0, on.1, on.2, on.3, t) in
-    let P : Status → Type 0 = λ s. GivesBy call name keys (TracedBy call c.args.ticks c.args.proc c.args.count) name s in
+    let P : Status → Type 0 = λ s. GivesBy call name keys (TracedBy call c.args.ticks c.args.proc c.args.count s) name s in
+    let gives : P (played_status c.trace-played.result) = inl (on.0, on.1, on.2, on.3, t) in
     subst P (sym c.status_of-status.ensures) gives

@@ -1,6 +1,4 @@
-use Rattle.std.proofs.Common.{inl, inr, sym, ◌∙◌, ap}
-use Rattle.ds_base.specs.declared.processors.Proc.TheVariants.{Nine, Seven}
-use Rattle.ds_runs.specs.Actors.{actor_of}
+use Rattle.run_ahead.proofs.Words.{inl, inr, sym, ◌∙◌, ap, Nine, Seven, actor_of}
 use Rattle.ds_machine.proofs.DueTicks.{sort_rank}
 use Rattle.ds_machine.proofs.Ranks.{processor_ranked}
 use Rattle.run_ahead.proofs.machine_turns.processor_of.Goals as goal

@@ -1,7 +1,5 @@
-use Rattle.std.proofs.Common.{Option, not, true≢false, refl, ap, sym, ◌∙◌, subst, arith}
-use Rattle.ds_base.specs.declared.left_out.LeftOut.{LeftOut}
-use Rattle.ds_machine.specs.Private.{rank_of}
-use Rattle.ds_machine.specs.StepAnswers.{Steps, done_of}
+use Rattle.run_ahead.proofs.Words.{Option, not, true≢false, refl, ap, sym, ◌∙◌, subst, arith, LeftOut, rank_of, Steps}
+use Rattle.ds_machine.specs.StepAnswers.{done_of}
 use Rattle.run_ahead.proofs.Stretches.{some_of, told_acts, told_below, told_catches}
 use Rattle.run_ahead.proofs.machine_turns.step_slowly.Goals as goal
 

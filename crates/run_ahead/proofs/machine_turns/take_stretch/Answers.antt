@@ -1,14 +1,6 @@
-use Rattle.std.proofs.Common.{◌<◌, true≢false, [], Option, sym, ap, subst, arith}
-use Rattle.ds_base.specs.declared.left_out.LeftOut.{LeftOut}
-use Rattle.ds_base.specs.declared.ticks.Tick.{Tick}
-use Rattle.ds_machine.specs.Counting.{last_limit}
-use Rattle.ds_machine.specs.TurnSteps.{BelongsToTurn, HasEnds, TakesSteps, no_steps, more_steps, own_remaining}
-use Rattle.ds_machine.specs.declared.next_events.Ends.{Ends}
+use Rattle.run_ahead.proofs.Words.{◌<◌, true≢false, [], Option, sym, ap, subst, arith, LeftOut, Tick, last_limit, BelongsToTurn, TakesSteps, no_steps}
+use Rattle.run_ahead.proofs.Words.{more_steps, HasEnds, own_remaining, Ends, MachineState, turn_steps_fall, running_along, TookStretch}
 use Rattle.ds_machine.proofs.EndTicks.{ends_after}
-use Rattle.ds_machine.specs.States.{MachineState}
-use Rattle.ds_machine.proofs.OwnRemaining.{turn_steps_fall}
-use Rattle.ds_machine.proofs.TurnSteps.{running_along}
-use Rattle.run_ahead.specs.Inside.{TookStretch}
 use Rattle.run_ahead.proofs.Stretches.{own_along, sound_along, takes_twice, took_twice}
 use Rattle.run_ahead.proofs.machine_turns.take_stretch.Goals as goal
 

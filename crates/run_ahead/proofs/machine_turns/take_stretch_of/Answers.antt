@@ -1,7 +1,4 @@
-use Rattle.std.proofs.Common.{sym, subst}
-use Rattle.ds_base.specs.declared.processors.Proc.{Proc}
-use Rattle.ds_machine.specs.TurnSteps.{HasLimit}
-use Rattle.run_ahead.specs.Inside.{TookStretch}
+use Rattle.run_ahead.proofs.Words.{sym, subst, Proc, HasLimit, TookStretch}
 use Rattle.run_ahead.proofs.machine_turns.take_stretch_of.Goals as goal
 
 pub take_stretch-requires-clause-limit : goal.take_stretch-requires-clause-limit

@@ -1,11 +1,5 @@
-use Rattle.std.proofs.Common.{[], Option, refl, sym, subst, arith}
-use Rattle.ds_base.specs.declared.left_out.LeftOut.{LeftOut}
-use Rattle.ds_machine.specs.Counting.{last_limit}
-use Rattle.ds_machine.specs.TurnSteps.{BelongsToTurn, TakesSteps, no_steps, more_steps}
-use Rattle.ds_machine.specs.States.{MachineState}
-use Rattle.ds_machine.proofs.OwnRemaining.{turn_steps_fall}
-use Rattle.ds_machine.proofs.TurnSteps.{running_along}
-use Rattle.run_ahead.specs.Inside.{TookStretch}
+use Rattle.run_ahead.proofs.Words.{[], Option, refl, sym, subst, arith, LeftOut, last_limit, BelongsToTurn, TakesSteps, no_steps, more_steps}
+use Rattle.run_ahead.proofs.Words.{MachineState, turn_steps_fall, running_along, TookStretch}
 use Rattle.run_ahead.proofs.Stretches.{sound_along}
 use Rattle.run_ahead.proofs.machine_turns.take_stretch_slowly.Goals as goal
 

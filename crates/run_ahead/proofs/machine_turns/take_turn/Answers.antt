@@ -1,7 +1,4 @@
-use Rattle.std.proofs.Common.{inl, inr, subst, arith}
-use Rattle.ds_runs.specs.Runs.{IsLeast}
-use Rattle.ds_machine.specs.Acting.{acting_dues}
-use Rattle.ds_machine.proofs.ActingDues.{acting_low}
+use Rattle.run_ahead.proofs.Words.{inl, inr, subst, arith, IsLeast, acting_dues, acting_low}
 use Rattle.run_ahead.proofs.StepTurns.{before_all, over_from}
 use Rattle.run_ahead.proofs.machine_turns.take_turn.Goals as goal
 

@@ -1,7 +1,4 @@
-use Rattle.std.proofs.Common.{◌∙◌, sym, subst, arith}
-use Rattle.ds_machine.specs.Counting.{IsRunning, RunsWithSome, last_limit}
-use Rattle.ds_machine.specs.Lagging.{CatchesUp, ComesBeforeAll}
-use Rattle.ds_machine.specs.States.{MachineState, with_file}
+use Rattle.ds_machine.proofs.Words.{◌∙◌, sym, subst, arith, IsRunning, RunsWithSome, last_limit, CatchesUp, ComesBeforeAll, MachineState, with_file}
 use Rattle.ds_machine.proofs.CatchingUp.{caught_statuses, level_caught}
 use Rattle.ds_machine.proofs.Files.{catches_put, first_put, some_sound}
 use Rattle.ds_machine.proofs.Running.{running_taken}

@@ -1,9 +1,4 @@
-use Rattle.std.proofs.Common.{sym, subst, arith}
-use Rattle.ds_runs.specs.Actors.{actor_of}
-use Rattle.ds_machine.specs.Counting.{IsRunning, RunsWithSome, last_limit}
-use Rattle.ds_machine.specs.Lagging.{observes_by}
-use Rattle.ds_machine.specs.States.{MachineState, with_file}
-use Rattle.ds_machine.specs.TurnSteps.{MayAct}
+use Rattle.ds_machine.proofs.Words.{sym, subst, arith, actor_of, IsRunning, RunsWithSome, last_limit, observes_by, MachineState, with_file, MayAct}
 use Rattle.ds_machine.proofs.CatchingUp.{caught_for, caught_statuses}
 use Rattle.ds_machine.proofs.Files.{catches_for, may_act_put, some_sound}
 use Rattle.ds_machine.proofs.Running.{running_before}

@@ -1,5 +1,4 @@
-use Rattle.std.proofs.Common.{refl, subst}
-use Rattle.ds_machine.specs.States.{MachineState}
+use Rattle.ds_machine.proofs.Words.{refl, subst, MachineState}
 use Rattle.ds_machine.specs.StepAnswers.{IsDue}
 use Rattle.ds_machine.proofs.DueTicks.{first_found}
 use Rattle.ds_machine.proofs.machines.Machine.due.Goals as goal

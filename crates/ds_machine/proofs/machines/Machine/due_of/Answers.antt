@@ -1,8 +1,5 @@
-use Rattle.std.proofs.Common.{◌∙◌, sym, ap}
-use Rattle.ds_runs.specs.Runs.{due_at}
+use Rattle.ds_machine.proofs.Words.{◌∙◌, sym, ap, due_at, due_by, dues_of, MachineState}
 use Rattle.ds_runs.specs.declared.actors.Actor as actor
-use Rattle.ds_machine.specs.Reference.{due_by, dues_of}
-use Rattle.ds_machine.specs.States.{MachineState}
 use Rattle.ds_machine.proofs.DueTicks.{due_of_rank}
 use Rattle.ds_machine.proofs.machines.Machine.due_of.Goals as goal
 

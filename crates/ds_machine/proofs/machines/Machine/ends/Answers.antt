@@ -1,7 +1,4 @@
-use Rattle.std.proofs.Common.{subst}
-use Rattle.ds_machine.specs.States.{MachineState}
-use Rattle.ds_machine.specs.TurnSteps.{HasEnds}
-use Rattle.ds_machine.specs.declared.next_events.Ends.{Ends}
+use Rattle.ds_machine.proofs.Words.{subst, MachineState, HasEnds, Ends}
 use Rattle.ds_machine.proofs.EndTicks.{ends_kept}
 use Rattle.ds_machine.proofs.machines.Machine.ends.Goals as goal
 

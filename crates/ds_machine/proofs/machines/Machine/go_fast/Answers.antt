@@ -1,13 +1,8 @@
-use Rattle.std.proofs.Common.{refl, sym, ◌∙◌, ap, subst}
+use Rattle.ds_machine.proofs.Words.{refl, sym, ◌∙◌, ap, subst, other_proc, RunsWithSome, IsNextEvent, MachineState, BelongsToTurn, TakesSteps}
+use Rattle.ds_machine.proofs.Words.{no_steps, HasLimit, IsTurnEnd, due_or_never, NextEvent}
 use Rattle.std.specs.Prelude.{◌<◌}
-use Rattle.ds_ipc.specs.Ipcs.{other_proc}
-use Rattle.ds_machine.specs.Counting.{RunsWithSome}
-use Rattle.ds_machine.specs.NextEvents.{IsNextEvent}
-use Rattle.ds_machine.specs.States.{MachineState}
-use Rattle.ds_machine.specs.TurnSteps.{BelongsToTurn, HasLimit, IsTurnEnd, TakesSteps, due_or_never, no_steps}
-use Rattle.ds_machine.specs.declared.next_events.NextEvent.{NextEvent}
 use Rattle.ds_machine.proofs.EndTicks.{other_never}
-use Rattle.ds_machine.proofs.FastTurns.{goes_first, goes_on, goes_same}
+use Rattle.ds_machine.proofs.FastTurns.{goes_first, goes_on, goes_same, untaken}
 use Rattle.ds_machine.proofs.GoingSteps.{statuses_taken}
 use Rattle.ds_machine.proofs.machines.Machine.go_fast.Goals as goal
 
@@ -56,7 +51,7 @@ invariant_of-self c =
 pub invariant_of-self-in-Unknown : goal.invariant_of-self-in-Unknown
 invariant_of-self-in-Unknown c =
     let now = c.step_fast.new.self in
-    let g = goes_same c.args.until.0 c.args.proc c.self.inside.next_event c.args.end c.args.limit c.self.inside.parts c.steps.self-inside.parts now c.steps.invariant.0 c.in-Unknown.ensures in (
+    let g = goes_same c.args.until.0 c.args.proc c.self.inside.next_event c.args.end c.args.limit c.self.inside.parts c.steps.self-inside.parts now c.steps.invariant.0 (untaken c.args.until.0 c.args.proc c.self.inside.next_event c.args.end c.args.limit c.steps.self-inside.parts c.step_fast.result c.step_fast.new.self c.in-Unknown.is c.step_fast.ensures) in (
       subst (λ (k : NextEvent). IsNextEvent k now) (sym c.steps.invariant.1) g.goes.kept,
       statuses_taken c.args.until.0 c.args.proc c.self.inside.parts now g.steps c.self.invariant.1,
     )
@@ -79,25 +74,25 @@ pub returns-in-Unknown-clause-steps : goal.returns-in-Unknown-clause-steps
 returns-in-Unknown-clause-steps c =
     let until = c.args.until.0 in
     let now = c.step_fast.new.self in
-    let g = goes_same until c.args.proc c.self.inside.next_event c.args.end c.args.limit c.self.inside.parts c.steps.self-inside.parts now c.steps.invariant.0 c.in-Unknown.ensures in
+    let g = goes_same until c.args.proc c.self.inside.next_event c.args.end c.args.limit c.self.inside.parts c.steps.self-inside.parts now c.steps.invariant.0 (untaken c.args.until.0 c.args.proc c.self.inside.next_event c.args.end c.args.limit c.steps.self-inside.parts c.step_fast.result c.step_fast.new.self c.in-Unknown.is c.step_fast.ensures) in
     subst (λ (m : MachineState). TakesSteps until c.args.proc m now) c.self.view_is g.steps
 
 pub returns-in-Unknown-clause-io : goal.returns-in-Unknown-clause-io
 returns-in-Unknown-clause-io c =
-    ap (λ (m : MachineState). m.io) c.in-Unknown.ensures ∙ c.steps.invariant.0.leaves.beside.io ∙ ap (λ (m : MachineState). m.io) c.self.view_is
+    ap (λ (m : MachineState). m.io) (untaken c.args.until.0 c.args.proc c.self.inside.next_event c.args.end c.args.limit c.steps.self-inside.parts c.step_fast.result c.step_fast.new.self c.in-Unknown.is c.step_fast.ensures) ∙ c.steps.invariant.0.leaves.beside.io ∙ ap (λ (m : MachineState). m.io) c.self.view_is
 
 pub returns-in-Unknown-clause-limit : goal.returns-in-Unknown-clause-limit
 returns-in-Unknown-clause-limit c =
     let now = c.step_fast.new.self in
-    (goes_same c.args.until.0 c.args.proc c.self.inside.next_event c.args.end c.args.limit c.self.inside.parts c.steps.self-inside.parts now c.steps.invariant.0 c.in-Unknown.ensures).goes.least
+    (goes_same c.args.until.0 c.args.proc c.self.inside.next_event c.args.end c.args.limit c.self.inside.parts c.steps.self-inside.parts now c.steps.invariant.0 (untaken c.args.until.0 c.args.proc c.self.inside.next_event c.args.end c.args.limit c.steps.self-inside.parts c.step_fast.result c.step_fast.new.self c.in-Unknown.is c.step_fast.ensures)).goes.least
 
 pub returns-in-Unknown-clause-end : goal.returns-in-Unknown-clause-end
 returns-in-Unknown-clause-end c =
     let now = c.step_fast.new.self in
-    (goes_same c.args.until.0 c.args.proc c.self.inside.next_event c.args.end c.args.limit c.self.inside.parts c.steps.self-inside.parts now c.steps.invariant.0 c.in-Unknown.ensures).goes.events
+    (goes_same c.args.until.0 c.args.proc c.self.inside.next_event c.args.end c.args.limit c.self.inside.parts c.steps.self-inside.parts now c.steps.invariant.0 (untaken c.args.until.0 c.args.proc c.self.inside.next_event c.args.end c.args.limit c.steps.self-inside.parts c.step_fast.result c.step_fast.new.self c.in-Unknown.is c.step_fast.ensures)).goes.events
 
 pub returns-in-Unknown-clause-other : goal.returns-in-Unknown-clause-other
 returns-in-Unknown-clause-other c =
     let now = c.step_fast.new.self in
-    let g = goes_same c.args.until.0 c.args.proc c.self.inside.next_event c.args.end c.args.limit c.self.inside.parts c.steps.self-inside.parts now c.steps.invariant.0 c.in-Unknown.ensures in
+    let g = goes_same c.args.until.0 c.args.proc c.self.inside.next_event c.args.end c.args.limit c.self.inside.parts c.steps.self-inside.parts now c.steps.invariant.0 (untaken c.args.until.0 c.args.proc c.self.inside.next_event c.args.end c.args.limit c.steps.self-inside.parts c.step_fast.result c.step_fast.new.self c.in-Unknown.is c.step_fast.ensures) in
     other_never c.self.inside.parts now c.args.proc g.leaves ∙ ap (λ (m : MachineState). due_or_never m (other_proc c.args.proc)) c.self.view_is

@@ -1,5 +1,4 @@
-use Rattle.std.proofs.Common.{◌≡◌}
-use Rattle.ds_machine.specs.TurnSteps.{own_remaining}
+use Rattle.ds_machine.proofs.Words.{◌≡◌, own_remaining}
 use Rattle.ds_machine.proofs.FastTurns.{Goes}
 use Rattle.ds_machine.proofs.machines.Machine.go_fast.Given as goal
 

@@ -1,6 +1,4 @@
-use Rattle.std.proofs.Common.{subst, arith}
-use Rattle.ds_machine.specs.States.{MachineState}
-use Rattle.ds_machine.specs.TurnSteps.{HasLimit}
+use Rattle.ds_machine.proofs.Words.{subst, arith, MachineState, HasLimit}
 use Rattle.ds_machine.proofs.EndTicks.{limit_so}
 use Rattle.ds_machine.proofs.machines.Machine.limit_of.Goals as goal
 

@@ -1,6 +1,4 @@
-use Rattle.std.proofs.Common.{sym, subst}
-use Rattle.ds_machine.specs.States.{with_file}
-use Rattle.ds_machine.specs.Statuses.{HasBothStatuses}
+use Rattle.ds_machine.proofs.Words.{sym, subst, with_file, HasBothStatuses}
 use Rattle.ds_machine.proofs.Booting.{running_booted}
 use Rattle.ds_machine.proofs.Files.{parts_put, statuses_put}
 use Rattle.ds_machine.proofs.Statuses.{boots_with_statuses}

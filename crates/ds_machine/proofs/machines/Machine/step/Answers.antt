@@ -1,8 +1,4 @@
-use Rattle.std.proofs.Common.{ℕ, List, sym, subst}
-use Rattle.ds_machine.specs.Counting.{IsRunning, last_limit}
-use Rattle.ds_machine.specs.States.{MachineState, with_file}
-use Rattle.ds_machine.specs.StepAnswers.{Steps}
-use Rattle.ds_machine.specs.TurnSteps.{MayStep}
+use Rattle.ds_machine.proofs.Words.{ℕ, List, sym, subst, IsRunning, last_limit, MachineState, with_file, Steps, MayStep}
 use Rattle.ds_machine.proofs.Files.{may_step_put}
 use Rattle.ds_machine.proofs.Running.{runs_after}
 use Rattle.ds_machine.proofs.Statuses.{statuses_done}

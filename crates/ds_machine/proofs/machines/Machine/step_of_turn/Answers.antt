@@ -1,10 +1,4 @@
-use Rattle.std.proofs.Common.{ℕ, sym, subst}
-use Rattle.ds_machine.specs.Counting.{IsRunning, last_limit}
-use Rattle.ds_machine.specs.Lagging.{CatchesUpFor}
-use Rattle.ds_machine.specs.Private.{rank_of}
-use Rattle.ds_machine.specs.States.{MachineState, with_file}
-use Rattle.ds_machine.specs.StepAnswers.{done_of}
-use Rattle.ds_machine.specs.TurnSteps.{MayAct}
+use Rattle.ds_machine.proofs.Words.{ℕ, sym, subst, IsRunning, last_limit, CatchesUpFor, rank_of, MachineState, with_file, done_of, MayAct}
 use Rattle.ds_machine.proofs.Files.{catches_for, steps_put}
 use Rattle.ds_machine.proofs.OwnTurns.{goes_after, may_go}
 use Rattle.ds_machine.proofs.Statuses.{statuses_done}

@@ -1,5 +1,4 @@
-use Rattle.std.proofs.Common.{arith}
-use Rattle.ds_base.specs.declared.processors.Proc.TheVariants.{Nine, Seven}
+use Rattle.ds_machine.proofs.Words.{arith, Nine, Seven}
 use Rattle.ds_machine.proofs.EndTicks.{first_in}
 use Rattle.ds_machine.proofs.next_events.Ends.first.Goals as goal
 

@@ -1,6 +1,4 @@
-use Rattle.std.proofs.Common.{◌<◌, refl, ap, arith}
-use Rattle.ds_machine.specs.States.{ProcessorState}
-use Rattle.ds_machine.specs.Steps.{processor_of}
+use Rattle.ds_machine.proofs.Words.{◌<◌, refl, ap, arith, ProcessorState, processor_of}
 use Rattle.ds_machine.proofs.GoingSteps.{belongs_below}
 use Rattle.ds_machine.proofs.parts.Parts.belongs_by.Goals as goal
 

@@ -1,6 +1,4 @@
-use Rattle.std.proofs.Common.{◌≤◌, ◌∙◌, inl, inr, sym, arith}
-use Rattle.ds_machine.specs.Counting.{run_of}
-use Rattle.ds_machine.specs.Lagging.{more_geometry, no_geometry}
+use Rattle.ds_machine.proofs.Words.{◌≤◌, ◌∙◌, inl, inr, sym, arith, run_of, more_geometry, no_geometry}
 use Rattle.ds_machine.proofs.CatchingUp.{behind_early, behind_is, caught_so, fewer_left}
 use Rattle.ds_machine.proofs.Files.{some_sound, some_taken}
 use Rattle.ds_machine.proofs.Running.{few_events}

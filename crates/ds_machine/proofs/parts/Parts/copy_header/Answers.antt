@@ -1,7 +1,5 @@
-use Rattle.std.proofs.Common.{ℕ, ◌≡◌, ◌≤◌, ◌+◌, List, length, take, arith, sym, ◌∙◌, ap}
+use Rattle.ds_machine.proofs.Words.{ℕ, ◌≡◌, ◌≤◌, ◌+◌, List, length, take, arith, sym, ◌∙◌, ap, Nine, MachineState}
 use Rattle.std.proofs.lemmas.List.{length-take-le}
-use Rattle.ds_base.specs.declared.processors.Proc.TheVariants.{Nine}
-use Rattle.ds_machine.specs.States.{MachineState}
 use Rattle.ds_machine.proofs.Booting.{copied_io}
 use Rattle.ds_machine.proofs.parts.Parts.copy_header.Goals as goal
 

@@ -1,5 +1,4 @@
-use Rattle.std.proofs.Common.{ℕ, ◌≤◌, ◌+◌, List, length, sym, ◌∙◌, ap, subst}
-use Rattle.ds_machine.specs.States.{MachineState}
+use Rattle.ds_machine.proofs.Words.{ℕ, ◌≤◌, ◌+◌, List, length, sym, ◌∙◌, ap, subst, MachineState}
 use Rattle.ds_machine.proofs.Booting.{copied_io, image_lies}
 use Rattle.ds_machine.proofs.parts.Parts.copy_image.Goals as goal
 

@@ -1,7 +1,4 @@
-use Rattle.std.proofs.Common.{sym, subst}
-use Rattle.ds_base.specs.declared.processors.Proc.{Proc}
-use Rattle.ds_machine.specs.Private.{IsFence}
-use Rattle.ds_base.specs.declared.processors.Proc.TheVariants.{Nine, Seven}
+use Rattle.ds_machine.proofs.Words.{sym, subst, Proc, IsFence, Nine, Seven}
 use Rattle.ds_machine.proofs.FenceFirsts.{fence_is}
 use Rattle.ds_machine.proofs.parts.Parts.fence.Goals as goal
 

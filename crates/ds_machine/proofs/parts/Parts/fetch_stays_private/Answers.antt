@@ -1,8 +1,5 @@
-use Rattle.std.proofs.Common.{ℕ, ◌≡◌, ◌↔◌, ◌∙◌, Bool, true, ap, sym, subst}
-use Rattle.ds_base.specs.Accesses.{Fetch}
-use Rattle.ds_machine.specs.Sides.{next_fetch}
-use Rattle.ds_machine.specs.States.{ProcessorState}
-use Rattle.ds_machine.specs.Touching.{FetchStaysPrivate}
+use Rattle.ds_machine.proofs.Words.{ℕ, ◌≡◌, ◌∙◌, Bool, true, ap, sym, subst, Fetch, next_fetch, ProcessorState, FetchStaysPrivate}
+use Rattle.std.proofs.Common.{◌↔◌}
 use Rattle.ds_machine.proofs.PrivateTests.{fetch_stays}
 use Rattle.ds_machine.proofs.parts.Parts.fetch_stays_private.Goals as goal
 

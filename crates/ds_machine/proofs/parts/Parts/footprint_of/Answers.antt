@@ -1,8 +1,4 @@
-use Rattle.std.proofs.Common.{◌∙◌, ap, sym}
-use Rattle.ds_base.specs.Processors.{architecture_of}
-use Rattle.ds_base.specs.declared.processors.Proc.{Proc}
-use Rattle.ds_machine.specs.States.{MachineState}
-use Rattle.ds_machine.specs.Steps.{processor_of}
+use Rattle.ds_machine.proofs.Words.{◌∙◌, ap, sym, architecture_of, Proc, MachineState, processor_of}
 use Rattle.ds_machine.proofs.PrivateTests.{footprint_as}
 use Rattle.ds_machine.proofs.parts.Parts.footprint_of.Goals as goal
 

@@ -1,8 +1,5 @@
-use Rattle.std.proofs.Common.{◌≡◌, ◌↔◌, ◌∙◌, Bool, true, Some, ap, sym, subst}
-use Rattle.std.specs.Prelude.{◌&&◌}
-use Rattle.ds_base.specs.declared.processors.Arch.{Arch}
-use Rattle.ds_machine.specs.Private.{may_go_ahead}
-use Rattle.ds_machine.specs.Touching.{InstrStaysPrivate, data_private}
+use Rattle.ds_machine.proofs.Words.{◌≡◌, ◌∙◌, Bool, true, Some, ap, sym, subst, ◌&&◌, Arch, may_go_ahead, InstrStaysPrivate, data_private}
+use Rattle.std.proofs.Common.{◌↔◌}
 use Rattle.ds_machine.proofs.PrivateTests.{instr_stays}
 use Rattle.ds_machine.proofs.parts.Parts.instr_stays_private.Goals as goal
 

@@ -1,5 +1,4 @@
-use Rattle.std.proofs.Common.{◌<◌, ◌^◌, ◌∙◌, sym, ap, arith}
-use Rattle.ds_machine.specs.States.{ProcessorState}
+use Rattle.ds_machine.proofs.Words.{◌<◌, ◌^◌, ◌∙◌, sym, ap, arith, ProcessorState}
 use Rattle.ds_machine.proofs.GoingSteps.{fetched_if, fetched_then}
 use Rattle.ds_machine.proofs.parts.Parts.is_fetch_private.Goals as goal
 

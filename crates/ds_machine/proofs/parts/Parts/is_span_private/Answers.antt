@@ -1,5 +1,4 @@
-use Rattle.std.proofs.Common.{◌∙◌, sym, arith}
-use Rattle.ds_machine.specs.Touching.{is_private_to}
+use Rattle.ds_machine.proofs.Words.{◌∙◌, sym, arith, is_private_to}
 use Rattle.ds_machine.proofs.PrivateTests.{span_ends, span_more}
 use Rattle.ds_machine.proofs.parts.Parts.is_span_private.Goals as goal
 

@@ -1,7 +1,4 @@
-use Rattle.std.proofs.Common.{◌≡◌, ◌+◌, ◌-◌}
-use Rattle.std.specs.List.{list_all}
-use Rattle.arm_core.specs.Footprints.{span}
-use Rattle.ds_machine.specs.Touching.{is_private_to}
+use Rattle.ds_machine.proofs.Words.{◌≡◌, ◌+◌, ◌-◌, list_all, span, is_private_to}
 use Rattle.ds_machine.proofs.parts.Parts.is_span_private.Given as goal
 
 -- what is left, from here on, is private exactly where all is from the start

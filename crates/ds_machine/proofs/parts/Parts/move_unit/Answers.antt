@@ -1,9 +1,4 @@
-use Rattle.std.proofs.Common.{◌∙◌, ap}
-use Rattle.ds_map.specs.Moves.{unit_moved}
-use Rattle.ds_machine.specs.States.{MachineState}
-use Rattle.ds_machine.specs.Steps.{map_of, with_map}
-use Rattle.ds_machine.specs.contracts.parts.Parts.{the_view}
-use Rattle.ds_map.proofs.Reached.{unreached_by}
+use Rattle.ds_machine.proofs.Words.{◌∙◌, ap, unit_moved, MachineState, map_of, with_map, the_view, unreached_by}
 use Rattle.ds_machine.proofs.Reached.{left_map}
 use Rattle.ds_machine.proofs.parts.Parts.move_unit.Goals as goal
 

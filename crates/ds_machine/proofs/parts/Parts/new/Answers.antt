@@ -1,7 +1,4 @@
-use Rattle.std.proofs.Common.{◌∙◌, ap}
-use Rattle.ds_base.specs.declared.processors.Proc.TheVariants.{Seven}
-use Rattle.ds_machine.specs.Booted.{with_header, with_image}
-use Rattle.ds_machine.specs.States.{MachineState, with_file}
+use Rattle.ds_machine.proofs.Words.{◌∙◌, ap, Seven, with_header, with_image, MachineState, with_file}
 use Rattle.ds_machine.proofs.Booting.{booted_put}
 use Rattle.ds_machine.proofs.parts.Parts.new.Goals as goal
 

@@ -1,10 +1,4 @@
-use Rattle.std.proofs.Common.{ℕ, ◌∙◌, ◌%◌, ◌^◌, ap, sym}
-use Rattle.ds_base.specs.declared.memories.Width.TheVariants.{Half, Word}
-use Rattle.ds_base.specs.declared.processors.Arch.{Arch}
-use Rattle.arm_words.specs.ArmTable.{decoded_arm}
-use Rattle.arm_words.specs.ThumbTable.{decoded_thumb}
-use Rattle.ds_machine.specs.Inspections.{fetch_of}
-use Rattle.ds_machine.specs.States.{ProcessorState}
+use Rattle.ds_machine.proofs.Words.{ℕ, ◌∙◌, ◌%◌, ◌^◌, ap, sym, Half, Word, Arch, decoded_arm, decoded_thumb, fetch_of, ProcessorState}
 use Rattle.ds_machine.proofs.PrivateTests.{half_is, word_is}
 use Rattle.ds_machine.proofs.parts.Parts.next_instr.Goals as goal
 

@@ -1,9 +1,5 @@
-use Rattle.std.proofs.Common.{rules, ◌≡◌, false, refl}
+use Rattle.ds_machine.proofs.Words.{rules, ◌≡◌, false, refl, Nine, Seven, dma_format_by, bytes_written, channels_format}
 use Rattle.std.proofs.lemmas.List.{map-id}
-use Rattle.ds_base.specs.declared.processors.Proc.TheVariants.{Nine, Seven}
-use Rattle.ds_dma.specs.Saved.{dma_format_by}
-use Rattle.ds_state.specs.Formats.{bytes_written}
-use Rattle.ds_machine.specs.Saved.{channels_format}
 use Rattle.ds_machine.proofs.SavedBytes.{dma_bytes}
 use Rattle.ds_machine.proofs.parts.Parts.put_channels.Goals as goal
 

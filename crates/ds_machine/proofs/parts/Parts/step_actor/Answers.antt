@@ -1,6 +1,4 @@
-use Rattle.std.proofs.Common.{Some, sym, ◌∙◌}
-use Rattle.ds_machine.specs.States.{with_file}
-use Rattle.ds_machine.specs.StepAnswers.{stepped_of}
+use Rattle.ds_machine.proofs.Words.{Some, sym, ◌∙◌, with_file, stepped_of}
 use Rattle.ds_machine.proofs.DueTicks.{low_rank, may_due, may_early, steps_as}
 use Rattle.ds_machine.proofs.Files.{due_put}
 use Rattle.ds_machine.proofs.Running.{few_events, few_steps, may_fit_run}

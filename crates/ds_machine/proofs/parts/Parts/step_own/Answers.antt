@@ -1,8 +1,5 @@
-use Rattle.std.proofs.Common.{ℕ, ◌≡◌, Some, sym, ◌∙◌, subst}
-use Rattle.ds_runs.specs.declared.actors.Actor.TheVariants.{Processor}
+use Rattle.ds_machine.proofs.Words.{ℕ, ◌≡◌, Some, sym, ◌∙◌, subst, Processor, awake, step_by, done_of, stepped_of}
 use Rattle.ds_machine.specs.Private as private
-use Rattle.ds_machine.specs.Reference.{awake, step_by}
-use Rattle.ds_machine.specs.StepAnswers.{done_of, stepped_of}
 use Rattle.ds_machine.proofs.DueTicks.{due_of_may, may_early, steps_as}
 use Rattle.ds_machine.proofs.GoingSteps.{actor_is}
 use Rattle.ds_machine.proofs.Running.{few_steps}

@@ -1,10 +1,6 @@
-use Rattle.std.proofs.Common.{◌&&◌, sym, ◌∙◌, ap}
-use Rattle.std.proofs.lemmas.Option.{same_Some}
-use Rattle.ds_machine.specs.Reference.{swapped_if}
-use Rattle.ds_machine.specs.States.{MachineState}
-use Rattle.ds_machine.specs.Steps.{ended, with_io}
+use Rattle.ds_machine.proofs.Words.{sym, ◌∙◌, ap, same_Some, swapped_if, MachineState, ended, with_io, scan_due_tick}
+use Rattle.std.proofs.Common.{◌&&◌}
 use Rattle.ds_machine.proofs.VideoEvents.{after_is, frame_made, line_made, line_stopped, swap_is}
-use Rattle.video2d.specs.Scans.{scan_due_tick}
 use Rattle.ds_machine.proofs.parts.Parts.step_video.Goals as goal
 
 pub returns-then-shown : goal.returns-then-shown

@@ -1,8 +1,4 @@
-use Rattle.std.proofs.Common.{◌∙◌, ap}
-use Rattle.ds_machine.specs.Boots.{stored}
-use Rattle.ds_machine.specs.States.{MachineState}
-use Rattle.ds_machine.specs.contracts.parts.Parts.{the_view}
-use Rattle.ds_map.proofs.Reached.{unreached_by}
+use Rattle.ds_machine.proofs.Words.{◌∙◌, ap, stored, MachineState, the_view, unreached_by}
 use Rattle.ds_machine.proofs.Reached.{left_map}
 use Rattle.ds_machine.proofs.parts.Parts.store.Goals as goal
 

@@ -1,10 +1,4 @@
-use Rattle.std.proofs.Common.{sym, ◌∙◌, ap}
-use Rattle.ds_base.specs.declared.processors.Proc.{Proc}
-use Rattle.ds_base.specs.declared.processors.Proc.TheVariants.{Seven}
-use Rattle.ds_map.specs.Maps.{unreached}
-use Rattle.ds_machine.specs.States.{MachineState}
-use Rattle.ds_machine.specs.Steps.{line_of, outcome_of}
-use Rattle.ds_machine.specs.contracts.parts.Parts.{the_view}
+use Rattle.ds_machine.proofs.Words.{sym, ◌∙◌, ap, Proc, Seven, unreached, MachineState, line_of, outcome_of, the_view}
 use Rattle.ds_machine.proofs.Reached.{apart_of, seven_went}
 use Rattle.ds_machine.proofs.parts.Parts.take.Goals as goal
 

@@ -1,15 +1,9 @@
-use Rattle.std.proofs.Common.{sym, ◌∙◌, ap}
-use Rattle.ds_base.specs.declared.processors.Proc.{Proc}
-use Rattle.ds_base.specs.declared.processors.Proc.TheVariants.{Seven}
-use Rattle.ds_map.specs.Maps.{unreached}
-use Rattle.ds_machine.specs.States.{MachineState}
-use Rattle.ds_machine.specs.Steps.{line_of, outcome_of}
-use Rattle.ds_machine.specs.contracts.parts.Parts.{the_view}
+use Rattle.ds_machine.proofs.Words.{sym, ◌∙◌, ap, Proc, Seven, unreached, MachineState, line_of, outcome_of, the_view}
 use Rattle.ds_machine.proofs.Reached.{apart_of, seven_stood, seven_went}
 use Rattle.ds_machine.proofs.parts.Parts.take_fast.Goals as goal
 
 pub returns-in-Seven-clause-none : goal.returns-in-Seven-clause-none
-returns-in-Seven-clause-none c = λ none.
+returns-in-Seven-clause-none g c = λ none.
     (let s = the_view c.self.inside in
     let m = c.take_fast_in_view-in-Seven.new.view.map.now in
     seven_stood s m c.take_fast_in_view-in-Seven.new.view.io.now c.take_fast_in_view-in-Seven.new.s c.args.now c.take_fast_in_view-in-Seven.new.view.now
@@ -18,7 +12,7 @@ returns-in-Seven-clause-none c = λ none.
     ∙ c.self.view_is)
 
 pub returns-in-Seven-clause-machine : goal.returns-in-Seven-clause-machine
-returns-in-Seven-clause-machine c = λ some.
+returns-in-Seven-clause-machine g c = λ some.
     (let s = the_view c.self.inside in
     let m = c.take_fast_in_view-in-Seven.new.view.map.now in
     let line = c.requires.line ∙ ap (λ (x : MachineState). line_of x c.args.proc) (sym c.self.view_is) ∙ ap (λ (p : Proc). line_of s p) c.in-Seven.is in

@@ -1,5 +1,4 @@
-use Rattle.std.proofs.Common.{◌∙◌, Ok, slice_index, ap, sym}
-use Rattle.ds_machine.specs.States.{MachineState}
+use Rattle.ds_machine.proofs.Words.{◌∙◌, Ok, slice_index, ap, sym, MachineState}
 use Rattle.ds_machine.proofs.parts.Parts.unpack.Goals as goal
 
 pub returns : goal.returns

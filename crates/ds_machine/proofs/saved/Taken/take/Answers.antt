@@ -1,5 +1,4 @@
-use Rattle.std.proofs.Common.{rules, ◌≡◌}
-use Rattle.ds_machine.specs.Saved.{around_of, asked_of, is_late}
+use Rattle.ds_machine.proofs.Words.{rules, ◌≡◌, around_of, asked_of, is_late}
 use Rattle.ds_machine.proofs.SavedReads.{card_fails, fails_on, front_read, gx_fails, video_fails}
 use Rattle.ds_machine.proofs.saved.Taken.take.Goals as goal
 

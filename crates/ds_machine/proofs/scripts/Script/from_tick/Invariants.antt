@@ -1,5 +1,4 @@
-use Rattle.std.proofs.Common.{◌≡◌, length}
-use Rattle.ds_machine.specs.Saved.{script_from}
+use Rattle.ds_machine.proofs.Words.{◌≡◌, length, script_from}
 use Rattle.ds_machine.proofs.scripts.Script.from_tick.Given as goal
 
 abbrev pub invariant-lines : goal.invariant-lines

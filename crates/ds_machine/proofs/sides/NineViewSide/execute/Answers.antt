@@ -1,14 +1,5 @@
-use Rattle.std.proofs.Common.{ℕ, ◌≤◌, sym, ◌∙◌, ap, subst}
-use Rattle.ds_base.specs.declared.processors.Arch.TheVariants.{V5}
-use Rattle.ds_base.specs.declared.processors.Proc.TheVariants.{Nine}
-use Rattle.arm_core.specs.Effects.{Outcome}
-use Rattle.arm_core.specs.Steps.{Setting, executed_word}
-use Rattle.cp15_tcm.specs.Registers.{vectors_of}
-use Rattle.ds_map.specs.Guards.{guarded_memory}
-use Rattle.ds_map.specs.Maps.{map_seen}
-use Rattle.ds_map.specs.Views.{NineReach, nine_memory}
-use Rattle.ds_map.specs.Waits.{Waited, nine_wait, waiting}
-use Rattle.ds_map.proofs.Waiting.{nine_most, waited_so}
+use Rattle.ds_machine.proofs.Words.{ℕ, ◌≤◌, sym, ◌∙◌, ap, subst, V5, Nine, Outcome, Setting, executed_word, vectors_of, guarded_memory, map_seen}
+use Rattle.ds_machine.proofs.Words.{NineReach, nine_memory, Waited, nine_wait, waiting, nine_most, waited_so}
 use Rattle.ds_machine.proofs.WaitedSteps.{nine_move, nine_word, word_brief}
 use Rattle.ds_machine.proofs.sides.NineViewSide.execute.Goals as goal
 

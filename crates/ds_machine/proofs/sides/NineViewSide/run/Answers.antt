@@ -1,13 +1,5 @@
-use Rattle.std.proofs.Common.{ℕ, ◌≤◌, sym, ◌∙◌, ap, subst}
-use Rattle.ds_base.specs.declared.processors.Arch.TheVariants.{V5}
-use Rattle.ds_base.specs.declared.processors.Proc.TheVariants.{Nine}
-use Rattle.arm_core.specs.Effects.{Outcome, carried_out}
-use Rattle.arm_ops.specs.Meanings.{operation_meaning}
-use Rattle.ds_map.specs.Guards.{guarded_memory}
-use Rattle.ds_map.specs.Maps.{map_seen}
-use Rattle.ds_map.specs.Views.{NineReach, nine_memory}
-use Rattle.ds_map.specs.Waits.{Waited, nine_wait, waiting}
-use Rattle.ds_map.proofs.Waiting.{nine_most, waited_so}
+use Rattle.ds_machine.proofs.Words.{ℕ, ◌≤◌, sym, ◌∙◌, ap, subst, V5, Nine, Outcome, carried_out, operation_meaning, run_is_decoded, guarded_memory}
+use Rattle.ds_machine.proofs.Words.{map_seen, NineReach, nine_memory, Waited, nine_wait, waiting, nine_most, waited_so}
 use Rattle.ds_machine.proofs.DecodedOperations.{nine_executes}
 use Rattle.ds_machine.proofs.WaitedSteps.{nine_operation, operation_brief}
 use Rattle.ds_machine.proofs.sides.NineViewSide.run.Goals as goal
@@ -15,7 +7,7 @@ use Rattle.ds_machine.proofs.sides.NineViewSide.run.Goals as goal
 pub returns-clause-executes : goal.returns-clause-executes
 returns-clause-executes c = λ number instr is.
     (let r : NineReach = record { map = map_seen Nine c.args.self.now.map.now c.args.self.now.io.now; cp15 = c.args.self.now.cp.now; itcm = c.args.self.now.itcm.now; dtcm = c.args.self.now.dtcm.now; now = c.args.self.now.now } in
-    nine_executes c.args.s.now r c.args.operation.now number instr c.requires.known is)
+    nine_executes c.args.s.now r c.args.operation.now number instr (run_is_decoded c.args.operation.now.op c.requires.known) is)
 
 pub returns-clause-brief : goal.returns-clause-brief
 returns-clause-brief c =

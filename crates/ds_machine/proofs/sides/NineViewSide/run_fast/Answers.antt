@@ -1,25 +1,17 @@
-use Rattle.std.proofs.Common.{ℕ, ◌∙◌, ap}
-use Rattle.ds_base.specs.declared.processors.Arch.TheVariants.{V5}
-use Rattle.ds_base.specs.declared.processors.Proc.TheVariants.{Nine}
-use Rattle.arm_core.specs.Effects.{Outcome, carried_out}
-use Rattle.arm_ops.specs.Meanings.{operation_meaning}
-use Rattle.ds_map.specs.Guards.{guarded_memory}
-use Rattle.ds_map.specs.Maps.{map_seen}
-use Rattle.ds_map.specs.Views.{NineReach, nine_memory}
-use Rattle.ds_map.specs.Waits.{Waited, nine_wait, waiting, waits_of}
-use Rattle.ds_map.proofs.Waiting.{nine_most, waited_so}
+use Rattle.ds_machine.proofs.Words.{ℕ, ◌∙◌, ap, V5, Nine, Outcome, carried_out, operation_meaning, guarded_memory, map_seen, NineReach, nine_memory}
+use Rattle.ds_machine.proofs.Words.{Waited, nine_wait, waiting, waits_of, nine_most, waited_so}
 use Rattle.ds_machine.proofs.DecodedOperations.{nine_executes}
 use Rattle.ds_machine.proofs.WaitedSteps.{brief_by, nine_operation, operation_brief}
 use Rattle.ds_machine.proofs.NearAccesses.{nine_stays}
 use Rattle.ds_machine.proofs.sides.NineViewSide.run_fast.Goals as goal
 
 pub returns-clause-executes : goal.returns-clause-executes
-returns-clause-executes c = λ some number instr is.
+returns-clause-executes g c = λ some number instr is.
     (let r : NineReach = record { map = map_seen Nine c.args.self.now.map.now c.args.self.now.io.now; cp15 = c.args.self.now.cp.now; itcm = c.args.self.now.itcm.now; dtcm = c.args.self.now.dtcm.now; now = c.args.self.now.now } in
     nine_executes c.args.s.now r c.args.operation.now number instr (c.run.ensures.known some) is)
 
 pub returns-clause-io : goal.returns-clause-io
-returns-clause-io c =
+returns-clause-io g c =
     let r : NineReach = record { map = map_seen Nine c.args.self.now.map.now c.args.self.now.io.now; cp15 = c.args.self.now.cp.now; itcm = c.args.self.now.itcm.now; dtcm = c.args.self.now.dtcm.now; now = c.args.self.now.now } in
     let after : NineReach = record { map = map_seen Nine c.run.new.bus.map.now c.run.new.bus.io.now; cp15 = c.run.new.bus.cp.now; itcm = c.run.new.bus.itcm.now; dtcm = c.run.new.bus.dtcm.now; now = c.run.new.bus.now } in
     let is =
@@ -31,7 +23,7 @@ returns-clause-io c =
     c.run.ensures.near
 
 pub returns-clause-brief : goal.returns-clause-brief
-returns-clause-brief c =
+returns-clause-brief g c =
     let r : NineReach = record { map = map_seen Nine c.args.self.now.map.now c.args.self.now.io.now; cp15 = c.args.self.now.cp.now; itcm = c.args.self.now.itcm.now; dtcm = c.args.self.now.dtcm.now; now = c.args.self.now.now } in
     let is =
     ap (λ (n : ℕ). carried_out (waiting guarded_memory nine_wait) V5 c.args.s.now (waited_so r n) (operation_meaning V5 c.args.s.now c.args.operation.now)) c.requires.begins

@@ -1,13 +1,5 @@
-use Rattle.std.proofs.Common.{ℕ, ◌≤◌, sym, ◌∙◌, ap, subst}
-use Rattle.ds_base.specs.declared.processors.Arch.TheVariants.{V4}
-use Rattle.ds_base.specs.declared.processors.Proc.TheVariants.{Seven}
-use Rattle.arm_core.specs.Effects.{Outcome}
-use Rattle.arm_core.specs.Steps.{executed_word}
-use Rattle.arm7_exec.specs.Arm7.{arm7}
-use Rattle.ds_map.specs.Maps.{map_seen}
-use Rattle.ds_map.specs.Views.{SevenReach, seven_memory}
-use Rattle.ds_map.specs.Waits.{Waited, seven_wait, waiting}
-use Rattle.ds_map.proofs.Waiting.{seven_most, waited_so}
+use Rattle.ds_machine.proofs.Words.{ℕ, ◌≤◌, sym, ◌∙◌, ap, subst, V4, Seven, Outcome, executed_word, arm7, map_seen, SevenReach, seven_memory, Waited}
+use Rattle.ds_machine.proofs.Words.{seven_wait, waiting, seven_most, waited_so}
 use Rattle.ds_machine.proofs.WaitedSteps.{seven_word, word_brief}
 use Rattle.ds_machine.proofs.sides.SevenViewSide.execute.Goals as goal
 

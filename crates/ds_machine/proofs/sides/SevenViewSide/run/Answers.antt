@@ -1,12 +1,5 @@
-use Rattle.std.proofs.Common.{ℕ, ◌≤◌, sym, ◌∙◌, ap, subst}
-use Rattle.ds_base.specs.declared.processors.Arch.TheVariants.{V4}
-use Rattle.ds_base.specs.declared.processors.Proc.TheVariants.{Seven}
-use Rattle.arm_core.specs.Effects.{Outcome, carried_out}
-use Rattle.arm_ops.specs.Meanings.{operation_meaning}
-use Rattle.ds_map.specs.Maps.{map_seen}
-use Rattle.ds_map.specs.Views.{SevenReach, seven_memory}
-use Rattle.ds_map.specs.Waits.{Waited, seven_wait, waiting}
-use Rattle.ds_map.proofs.Waiting.{seven_most, waited_so}
+use Rattle.ds_machine.proofs.Words.{ℕ, ◌≤◌, sym, ◌∙◌, ap, subst, V4, Seven, Outcome, carried_out, operation_meaning, run_is_decoded, map_seen}
+use Rattle.ds_machine.proofs.Words.{SevenReach, seven_memory, Waited, seven_wait, waiting, seven_most, waited_so}
 use Rattle.ds_machine.proofs.DecodedOperations.{seven_executes}
 use Rattle.ds_machine.proofs.WaitedSteps.{operation_brief, seven_operation}
 use Rattle.ds_machine.proofs.sides.SevenViewSide.run.Goals as goal
@@ -14,7 +7,7 @@ use Rattle.ds_machine.proofs.sides.SevenViewSide.run.Goals as goal
 pub returns-clause-executes : goal.returns-clause-executes
 returns-clause-executes c = λ number instr is.
     (let r : SevenReach = record { map = map_seen Seven c.args.self.now.map.now c.args.self.now.io.now; now = c.args.self.now.now } in
-    seven_executes c.args.s.now r c.args.operation.now number instr c.requires.known is)
+    seven_executes c.args.s.now r c.args.operation.now number instr (run_is_decoded c.args.operation.now.op c.requires.known) is)
 
 pub returns-clause-registers : goal.returns-clause-registers
 returns-clause-registers c =

@@ -1,24 +1,17 @@
-use Rattle.std.proofs.Common.{ℕ, sym, ◌∙◌, ap}
-use Rattle.ds_base.specs.declared.processors.Arch.TheVariants.{V4}
-use Rattle.ds_base.specs.declared.processors.Proc.TheVariants.{Seven}
-use Rattle.arm_core.specs.Effects.{Outcome, carried_out}
-use Rattle.arm_ops.specs.Meanings.{operation_meaning}
-use Rattle.ds_map.specs.Maps.{map_seen}
-use Rattle.ds_map.specs.Views.{SevenReach, seven_memory}
-use Rattle.ds_map.specs.Waits.{Waited, seven_wait, waiting, waits_of}
-use Rattle.ds_map.proofs.Waiting.{seven_most, waited_so}
+use Rattle.ds_machine.proofs.Words.{ℕ, sym, ◌∙◌, ap, V4, Seven, Outcome, carried_out, operation_meaning, map_seen, SevenReach, seven_memory, Waited}
+use Rattle.ds_machine.proofs.Words.{seven_wait, waiting, waits_of, seven_most, waited_so}
 use Rattle.ds_machine.proofs.DecodedOperations.{seven_executes}
 use Rattle.ds_machine.proofs.WaitedSteps.{brief_by, operation_brief, seven_operation}
 use Rattle.ds_machine.proofs.NearAccesses.{seven_stays}
 use Rattle.ds_machine.proofs.sides.SevenViewSide.run_fast.Goals as goal
 
 pub returns-clause-executes : goal.returns-clause-executes
-returns-clause-executes c = λ some number instr is.
+returns-clause-executes g c = λ some number instr is.
     (let r : SevenReach = record { map = map_seen Seven c.args.self.now.map.now c.args.self.now.io.now; now = c.args.self.now.now } in
     seven_executes c.args.s.now r c.args.operation.now number instr (c.run.ensures.known some) is)
 
 pub returns-clause-registers : goal.returns-clause-registers
-returns-clause-registers c = λ some. (
+returns-clause-registers g c = λ some. (
     let r : SevenReach = record { map = map_seen Seven c.args.self.now.map.now c.args.self.now.io.now; now = c.args.self.now.now } in
     let is =
     ap (λ (n : ℕ). carried_out (waiting seven_memory seven_wait) V4 c.args.s.now (waited_so r n) (operation_meaning V4 c.args.s.now c.args.operation.now)) c.requires.begins
@@ -26,7 +19,7 @@ returns-clause-registers c = λ some. (
     c.run.ensures.registers some ∙ ap (λ (o : Outcome (Waited SevenReach)). o.registers) is)
 
 pub returns-clause-state : goal.returns-clause-state
-returns-clause-state c = λ some. (
+returns-clause-state g c = λ some. (
     let r : SevenReach = record { map = map_seen Seven c.args.self.now.map.now c.args.self.now.io.now; now = c.args.self.now.now } in
     let is =
     ap (λ (n : ℕ). carried_out (waiting seven_memory seven_wait) V4 c.args.s.now (waited_so r n) (operation_meaning V4 c.args.s.now c.args.operation.now)) c.requires.begins
@@ -34,7 +27,7 @@ returns-clause-state c = λ some. (
     ap (λ (x : Waited SevenReach). x.reached) (c.run.ensures.state some ∙ ap (λ (o : Outcome (Waited SevenReach)). o.state) is))
 
 pub returns-clause-stepped : goal.returns-clause-stepped
-returns-clause-stepped c = λ some. (
+returns-clause-stepped g c = λ some. (
     let r : SevenReach = record { map = map_seen Seven c.args.self.now.map.now c.args.self.now.io.now; now = c.args.self.now.now } in
     let is =
     ap (λ (n : ℕ). carried_out (waiting seven_memory seven_wait) V4 c.args.s.now (waited_so r n) (operation_meaning V4 c.args.s.now c.args.operation.now)) c.requires.begins
@@ -42,7 +35,7 @@ returns-clause-stepped c = λ some. (
     sym (ap (λ (o : Outcome (Waited SevenReach)). o.stepped) is) ∙ c.run.ensures.stepped some)
 
 pub returns-clause-waits : goal.returns-clause-waits
-returns-clause-waits c = λ some. (
+returns-clause-waits g c = λ some. (
     let r : SevenReach = record { map = map_seen Seven c.args.self.now.map.now c.args.self.now.io.now; now = c.args.self.now.now } in
     let is =
     ap (λ (n : ℕ). carried_out (waiting seven_memory seven_wait) V4 c.args.s.now (waited_so r n) (operation_meaning V4 c.args.s.now c.args.operation.now)) c.requires.begins
@@ -50,7 +43,7 @@ returns-clause-waits c = λ some. (
     ap (λ (x : Waited SevenReach). x.waits) (c.run.ensures.state some ∙ ap (λ (o : Outcome (Waited SevenReach)). o.state) is))
 
 pub returns-clause-io : goal.returns-clause-io
-returns-clause-io c =
+returns-clause-io g c =
     let r : SevenReach = record { map = map_seen Seven c.args.self.now.map.now c.args.self.now.io.now; now = c.args.self.now.now } in
     let after : SevenReach = record { map = map_seen Seven c.run.new.bus.map.now c.run.new.bus.io.now; now = c.run.new.bus.now } in
     let is =
@@ -62,7 +55,7 @@ returns-clause-io c =
     c.run.ensures.near
 
 pub returns-clause-brief : goal.returns-clause-brief
-returns-clause-brief c =
+returns-clause-brief g c =
     let r : SevenReach = record { map = map_seen Seven c.args.self.now.map.now c.args.self.now.io.now; now = c.args.self.now.now } in
     let is =
     ap (λ (n : ℕ). carried_out (waiting seven_memory seven_wait) V4 c.args.s.now (waited_so r n) (operation_meaning V4 c.args.s.now c.args.operation.now)) c.requires.begins

@@ -1,14 +1,9 @@
-use Rattle.std.proofs.Common.{ℕ, ◌≡◌, false, Option, IsSome, sym, ◌∙◌, ap, subst}
-use Rattle.ds_base.specs.declared.left_out.Stop.{Stop}
-use Rattle.ds_dma.specs.States.{dma_due}
-use Rattle.ds_map.specs.Accesses.{map_refusal, map_written}
-use Rattle.ds_map.specs.Guards.{is_guarded}
-use Rattle.ds_map.specs.Maps.{MapState, map_seen}
-use Rattle.ds_map.specs.Moves.{unit_refusal, unit_taken, unit_waits}
+use Rattle.ds_map.proofs.Words.{ℕ, ◌≡◌, false, Option, IsSome, sym, ◌∙◌, ap, subst, Stop, dma_due, map_refusal, map_written, is_guarded, MapState}
+use Rattle.ds_map.proofs.Words.{unit_refusal, unit_taken, unit_waits, IoState, channel_moved, channel_put_back, io_of, before_move}
+use Rattle.ds_map.specs.MapLaws.{map_seen}
 use Rattle.ds_map.proofs.Guards.{unit_has_room}
 use Rattle.ds_map.proofs.TakenBack.{put_back_is, still_due}
-use Rattle.ds_ports.specs.Io.{IoState, channel_moved, channel_put_back, io_of}
-use Rattle.ds_ports.specs.ProcessorIo.{BeforeMove, before_move}
+use Rattle.ds_ports.specs.ProcessorIo.{BeforeMove}
 use Rattle.ds_map.proofs.maps.Map.move_unit.Goals as goal
 
 -- the channel is still due after the read

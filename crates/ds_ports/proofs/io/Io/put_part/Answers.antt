@@ -1,6 +1,4 @@
-use Rattle.std.proofs.Common.{◌∙◌, ap, sym, subst}
-use Rattle.gx_fifo.specs.GxStates.{IsGx}
-use Rattle.ds_ports.specs.Io.{IoState}
+use Rattle.ds_ports.proofs.Words.{◌∙◌, ap, sym, subst, IsGx, IoState}
 use Rattle.ds_ports.proofs.Wholes.{command_put}
 use Rattle.ds_ports.proofs.io.Io.put_part.Goals as goal
 

@@ -1,6 +1,4 @@
-use Rattle.std.proofs.Common.{◌≡◌, true, sym, ◌∙◌, ap, subst}
-use Rattle.ds_ports.specs.Acting.{first_acting_io_due}
-use Rattle.ds_ports.specs.Io.{IoState, is_settled}
+use Rattle.ds_ports.proofs.Words.{◌≡◌, true, sym, ◌∙◌, ap, subst, first_acting_io_due, IoState, is_settled}
 use Rattle.ds_ports.proofs.Dues.{received_moves_none}
 use Rattle.ds_ports.proofs.Settled.{received_settled}
 use Rattle.ds_ports.proofs.io.Io.receive.Goals as goal

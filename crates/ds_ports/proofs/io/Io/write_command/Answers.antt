@@ -1,7 +1,4 @@
-use Rattle.std.proofs.Common.{◌≡◌, true, refl, sym, ◌∙◌, ap}
-use Rattle.ds_ports.specs.Acting.{first_acting_io_due, is_silent}
-use Rattle.ds_ports.specs.Io.{is_settled}
-use Rattle.ds_ports.specs.declared.registers.Register.TheVariants.{GxCommand}
+use Rattle.ds_ports.proofs.Words.{◌≡◌, true, refl, sym, ◌∙◌, ap, first_acting_io_due, is_silent, is_settled, GxCommand}
 use Rattle.ds_ports.proofs.Silent.{geometry_written_moves_none, geometry_written_settles_none}
 use Rattle.ds_ports.proofs.io.Io.write_command.Goals as goal
 

@@ -1,6 +1,4 @@
-use Rattle.std.proofs.Common.{sym, ◌∙◌, ap}
-use Rattle.ds_base.specs.declared.memories.Width.TheVariants.{Half}
-use Rattle.ds_ports.specs.Ports.{whole_in}
+use Rattle.ds_ports.proofs.Words.{sym, ◌∙◌, ap, Half, whole_in}
 use Rattle.ds_ports.proofs.Grows.{half_room}
 use Rattle.ds_ports.proofs.io.Io.write_half.Goals as goal
 

@@ -1,8 +1,4 @@
-use Rattle.std.proofs.Common.{◌∙◌, ap}
-use Rattle.std.specs.Prelude.{slice_index}
-use Rattle.ds_machine.specs.Inspections.{memory_of}
-use Rattle.ds_machine.specs.States.{MachineState}
-use Rattle.run_ahead.specs.Consoles.{ConsoleState}
+use Rattle.run_ahead.proofs.Words.{◌∙◌, ap, slice_index, memory_of, MachineState, ConsoleState}
 use Rattle.run_ahead.proofs.consoles.Console.byte_of.Goals as goal
 
 pub returns : goal.returns

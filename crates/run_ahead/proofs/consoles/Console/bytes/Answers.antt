@@ -1,7 +1,4 @@
-use Rattle.std.proofs.Common.{◌∙◌, ap}
-use Rattle.ds_machine.specs.Inspections.{memory_of}
-use Rattle.ds_machine.specs.States.{MachineState}
-use Rattle.run_ahead.specs.Consoles.{ConsoleState}
+use Rattle.run_ahead.proofs.Words.{◌∙◌, ap, memory_of, MachineState, ConsoleState}
 use Rattle.run_ahead.proofs.consoles.Console.bytes.Goals as goal
 
 pub returns-clause-value : goal.returns-clause-value

@@ -1,10 +1,4 @@
-use Rattle.std.proofs.Common.{List, Option, sym, ◌∙◌, ap, subst}
-use Rattle.ds_base.specs.declared.ticks.Tick.{Tick}
-use Rattle.ds_runs.specs.Runs.{IsLeast}
-use Rattle.ds_machine.specs.Reference.{dues_of}
-use Rattle.ds_machine.specs.States.{MachineState}
-use Rattle.ds_machine.proofs.Files.{dues_put}
-use Rattle.run_ahead.specs.Consoles.{ConsoleState}
+use Rattle.run_ahead.proofs.Words.{List, Option, sym, ◌∙◌, ap, subst, Tick, IsLeast, dues_of, MachineState, dues_put, ConsoleState}
 use Rattle.run_ahead.proofs.consoles.Console.due.Goals as goal
 
 pub returns : goal.returns

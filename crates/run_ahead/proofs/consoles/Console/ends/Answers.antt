@@ -1,7 +1,4 @@
-use Rattle.std.proofs.Common.{◌≤◌, subst, arith}
-use Rattle.ds_machine.specs.declared.next_events.Ends.{Ends}
-use Rattle.run_ahead.specs.Consoles.{ConsoleState, open_of}
-use Rattle.run_ahead.specs.Inside.{AreAtOnce}
+use Rattle.run_ahead.proofs.Words.{◌≤◌, subst, arith, Ends, ConsoleState, open_of, AreAtOnce}
 use Rattle.run_ahead.proofs.StepTurns.{at_once}
 use Rattle.run_ahead.proofs.consoles.Console.ends.Goals as goal
 

@@ -1,6 +1,4 @@
-use Rattle.std.proofs.Common.{◌∙◌, ap}
-use Rattle.ds_machine.specs.States.{MachineState}
-use Rattle.run_ahead.specs.Consoles.{ConsoleState}
+use Rattle.run_ahead.proofs.Words.{◌∙◌, ap, MachineState, ConsoleState}
 use Rattle.run_ahead.proofs.consoles.Console.frame.Goals as goal
 
 pub returns : goal.returns

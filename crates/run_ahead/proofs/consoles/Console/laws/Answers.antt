@@ -1,6 +1,5 @@
-use Rattle.std.proofs.Common.{◌≡◌, ◌≤◌, ◌∙◌, length, ap, subst, arith}
-use Rattle.ds_machine.specs.Sound.{IsSound}
-use Rattle.run_ahead.specs.Consoles.{AreWithin, ConsoleState}
+use Rattle.run_ahead.proofs.Words.{◌≡◌, ◌≤◌, ◌∙◌, length, ap, subst, arith, IsSound, ConsoleState}
+use Rattle.run_ahead.specs.Consoles.{AreWithin}
 use Rattle.run_ahead.proofs.consoles.Console.laws.Goals as goal
 
 pub returns-clause-sound : goal.returns-clause-sound

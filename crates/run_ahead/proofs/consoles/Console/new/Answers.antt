@@ -1,6 +1,5 @@
-use Rattle.std.proofs.Common.{◌≡◌, List, ℕ, refl, sym, subst, arith}
+use Rattle.run_ahead.proofs.Words.{◌≡◌, List, ℕ, refl, sym, subst, arith, counts_add_up}
 use Rattle.ds_machine.specs.Booted.{machine_booted}
-use Rattle.ds_machine.proofs.Running.{counts_add_up}
 use Rattle.run_ahead.proofs.consoles.Console.new.Goals as goal
 
 pub invariant_of-result : goal.invariant_of-result

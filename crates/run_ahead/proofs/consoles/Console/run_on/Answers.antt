@@ -1,7 +1,6 @@
-use Rattle.std.proofs.Common.{Option, refl, sym, subst, arith}
-use Rattle.std.specs.Prelude.{IsSome}
+use Rattle.run_ahead.proofs.Words.{Option, refl, sym, subst, arith, IsSome}
 use Rattle.ds_machine.specs.declared.next_events.First.{First}
-use Rattle.run_ahead.specs.Turns.{TurnsUpTo}
+use Rattle.run_ahead.specs.TurnLaws.{TurnsUpTo}
 use Rattle.run_ahead.specs.declared.turns.Turned as turned
 use Rattle.run_ahead.specs.declared.turns.Turned.TheVariants as answers
 use Rattle.run_ahead.proofs.RunningOn.{ran_first, ran_more, up_to_counts}

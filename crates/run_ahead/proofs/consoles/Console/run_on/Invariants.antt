@@ -1,6 +1,4 @@
-use Rattle.std.proofs.Common.{◌≤◌}
-use Rattle.run_ahead.specs.Inside.{AreAtOnce}
-use Rattle.run_ahead.specs.Turns.{RanOn, turns_remaining}
+use Rattle.run_ahead.proofs.Words.{◌≤◌, AreAtOnce, RanOn, turns_remaining}
 use Rattle.run_ahead.proofs.consoles.Console.run_on.Given as goal
 
 -- the turns so far ran, no more of them are left than before, and it is known by what the next is found that can be taken at once

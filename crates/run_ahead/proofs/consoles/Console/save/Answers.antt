@@ -1,12 +1,5 @@
-use Rattle.std.proofs.Common.{ℕ, ◌≡◌, ◌≤◌, ◌*◌, ◌^◌, List, None, sym, ◌∙◌, ap, subst}
-use Rattle.ds_machine.specs.Back.{HasMachineBounds}
-use Rattle.ds_machine.specs.Reference.{dues_of}
-use Rattle.ds_machine.specs.Sound.{IsSound}
-use Rattle.ds_machine.specs.States.{counts_of}
-use Rattle.ds_machine.specs.Within.{IsWithinTick}
-use Rattle.ds_runs.specs.Runs.{IsOver}
-use Rattle.run_ahead.specs.Consoles.{ConsoleState}
-use Rattle.run_ahead.specs.Saved.{IsReadBack, head_of, state_bytes}
+use Rattle.run_ahead.proofs.Words.{ℕ, ◌≡◌, ◌≤◌, ◌*◌, ◌^◌, List, None, sym, ◌∙◌, ap, subst, HasMachineBounds, dues_of, IsSound, counts_of}
+use Rattle.run_ahead.proofs.Words.{IsWithinTick, IsOver, ConsoleState, IsReadBack, head_of, state_bytes}
 use Rattle.run_ahead.proofs.SavedStates.{kept_back, written_whole}
 use Rattle.run_ahead.proofs.consoles.Console.save.Goals as goal
 

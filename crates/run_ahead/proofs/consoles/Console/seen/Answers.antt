@@ -1,7 +1,5 @@
-use Rattle.std.proofs.Common.{◌∙◌, ap}
+use Rattle.run_ahead.proofs.Words.{◌∙◌, ap, MachineState, ConsoleState}
 use Rattle.ds_machine.specs.Inspections.{seen_of}
-use Rattle.ds_machine.specs.States.{MachineState}
-use Rattle.run_ahead.specs.Consoles.{ConsoleState}
 use Rattle.run_ahead.proofs.consoles.Console.seen.Goals as goal
 
 pub returns : goal.returns

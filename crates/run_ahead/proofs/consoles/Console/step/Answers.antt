@@ -1,11 +1,7 @@
-use Rattle.std.proofs.Common.{ℕ, ◌≡◌, ◌+◌, ◌⊎◌, [], ◌∷◌, Some, None, IsSome, is_some, true≢false, refl, sym, ◌∙◌, ap, subst, arith}
-use Rattle.std.proofs.lemmas.Option.{none-some}
-use Rattle.ds_runs.specs.Runs.{IsOver}
-use Rattle.ds_machine.specs.Counting.{last_limit}
-use Rattle.ds_machine.specs.Reference.{dues_of, next_shown}
-use Rattle.ds_machine.proofs.Running.{counts_add_up, limits_rise}
-use Rattle.run_ahead.specs.Consoles.{ConsoleState, open_of}
-use Rattle.run_ahead.specs.Turns.{MeetsStop, TakesEvent, TakesQuiet, TakesStretch, one_more_turn, run_to}
+use Rattle.run_ahead.proofs.Words.{ℕ, ◌≡◌, ◌+◌, ◌⊎◌, [], ◌∷◌, Some, None, true≢false, refl, sym, ◌∙◌, ap, subst, arith, none-some, IsOver, last_limit}
+use Rattle.run_ahead.proofs.Words.{dues_of, next_shown, counts_add_up, limits_rise, ConsoleState, open_of, MeetsStop, TakesEvent, TakesQuiet}
+use Rattle.run_ahead.proofs.Words.{TakesStretch, one_more_turn, run_to}
+use Rattle.std.proofs.Common.{IsSome, is_some}
 use Rattle.run_ahead.proofs.StepTurns.{frame_taken, made_taken, one_fits, over_all, over_from, stopped_counts, stopped_few}
 use Rattle.run_ahead.proofs.consoles.Console.step.Goals as goal
 use Rattle.run_ahead.proofs.consoles.Console.step.Goals.{else-until-acting-via-then-until-acting+else-not-is_behind, else-until-acting-via-else-until-acting}

@@ -1,12 +1,6 @@
-use Rattle.std.proofs.Common.{◌≡◌, ◌+◌, ◌⊎◌, max, [], Option, None, refl, sym, ◌∙◌, ap, subst, arith}
-use Rattle.std.proofs.lemmas.Option.{none-some}
-use Rattle.ds_base.specs.declared.left_out.LeftOut.{LeftOut}
-use Rattle.ds_machine.specs.Counting.{last_limit}
-use Rattle.ds_machine.specs.TurnSteps.{HasEnds, HasLimit, IsLeastBelow}
-use Rattle.ds_machine.proofs.Running.{counts_add_up, limits_rise}
-use Rattle.run_ahead.specs.Consoles.{ConsoleState, open_of}
-use Rattle.run_ahead.specs.Inside.{TookStretch}
-use Rattle.run_ahead.specs.Turns.{TakesEvent, TakesQuiet, TakesStretch, one_more_turn, run_to}
+use Rattle.run_ahead.proofs.Words.{◌≡◌, ◌+◌, ◌⊎◌, max, [], Option, None, refl, sym, ◌∙◌, ap, subst, arith, none-some, LeftOut, last_limit, HasEnds}
+use Rattle.run_ahead.proofs.Words.{HasLimit, IsLeastBelow, counts_add_up, limits_rise, ConsoleState, open_of, TookStretch, TakesEvent, TakesQuiet}
+use Rattle.run_ahead.proofs.Words.{TakesStretch, one_more_turn, run_to}
 use Rattle.run_ahead.proofs.StepTurns.{is_stop, is_stretch, made_taken, one_fits, StopsNow, ran_is, stopped_counts, stopped_few, stops_now}
 use Rattle.run_ahead.proofs.consoles.Console.take_at_once.Goals as goal
 

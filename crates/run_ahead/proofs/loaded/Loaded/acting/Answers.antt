@@ -1,8 +1,5 @@
-use Rattle.std.proofs.Common.{List, Option, sym, subst}
-use Rattle.ds_base.specs.declared.ticks.Tick.{Tick}
-use Rattle.ds_runs.specs.Runs.{IsLeast}
+use Rattle.run_ahead.proofs.Words.{List, Option, sym, subst, Tick, IsLeast, MachineState}
 use Rattle.ds_machine.specs.Acting.{IsActing}
-use Rattle.ds_machine.specs.States.{MachineState}
 use Rattle.ds_machine.proofs.Files.{acting_put}
 use Rattle.run_ahead.proofs.loaded.Loaded.acting.Goals as goal
 

@@ -1,7 +1,4 @@
-use Rattle.std.proofs.Common.{sym, subst}
-use Rattle.ds_machine.specs.States.{MachineState, with_file}
-use Rattle.ds_machine.specs.TurnSteps.{BelongsToTurn}
-use Rattle.ds_machine.proofs.Files.{belongs_put}
+use Rattle.run_ahead.proofs.Words.{sym, subst, MachineState, with_file, BelongsToTurn, belongs_put}
 use Rattle.run_ahead.proofs.LoadedMachine.{limit_there}
 use Rattle.run_ahead.proofs.loaded.Loaded.belongs_by.Goals as goal
 

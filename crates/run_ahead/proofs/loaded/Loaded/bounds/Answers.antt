@@ -1,6 +1,4 @@
-use Rattle.std.proofs.Common.{subst}
-use Rattle.ds_machine.specs.Back.{HasMachineBounds}
-use Rattle.ds_machine.specs.States.{MachineState}
+use Rattle.run_ahead.proofs.Words.{subst, HasMachineBounds, MachineState}
 use Rattle.ds_machine.proofs.Files.{bounds_put}
 use Rattle.run_ahead.proofs.loaded.Loaded.bounds.Goals as goal
 

@@ -1,7 +1,4 @@
-use Rattle.std.proofs.Common.{sym, subst}
-use Rattle.ds_machine.specs.Counting.{IsRunning, last_limit}
-use Rattle.ds_machine.specs.Lagging.{CatchesUp, ComesBeforeAll}
-use Rattle.ds_machine.specs.States.{MachineState, with_file}
+use Rattle.run_ahead.proofs.Words.{sym, subst, IsRunning, last_limit, CatchesUp, ComesBeforeAll, MachineState, with_file}
 use Rattle.ds_machine.proofs.Files.{catches_put, first_put}
 use Rattle.run_ahead.proofs.loaded.Loaded.catch_up.Goals as goal
 

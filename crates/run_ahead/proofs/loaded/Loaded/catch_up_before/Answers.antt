@@ -1,9 +1,5 @@
-use Rattle.std.proofs.Common.{sym, subst}
-use Rattle.ds_machine.specs.Counting.{IsRunning, last_limit}
-use Rattle.ds_machine.specs.Lagging.{CatchesUpFor}
-use Rattle.ds_machine.specs.States.{MachineState, with_file}
-use Rattle.ds_machine.specs.TurnSteps.{MayAct}
-use Rattle.ds_machine.proofs.Files.{catches_for, may_act_put}
+use Rattle.run_ahead.proofs.Words.{sym, subst, IsRunning, last_limit, CatchesUpFor, MachineState, with_file, MayAct, may_act_put}
+use Rattle.ds_machine.proofs.Files.{catches_for}
 use Rattle.run_ahead.proofs.loaded.Loaded.catch_up_before.Goals as goal
 
 pub catch_up_before-requires-clause-running : goal.catch_up_before-requires-clause-running

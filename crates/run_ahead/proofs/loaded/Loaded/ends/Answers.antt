@@ -1,6 +1,4 @@
-use Rattle.std.proofs.Common.{subst}
-use Rattle.ds_machine.specs.States.{MachineState}
-use Rattle.ds_machine.specs.TurnSteps.{HasEnds}
+use Rattle.run_ahead.proofs.Words.{subst, MachineState, HasEnds}
 use Rattle.ds_machine.proofs.Files.{ends_put}
 use Rattle.run_ahead.proofs.loaded.Loaded.ends.Goals as goal
 

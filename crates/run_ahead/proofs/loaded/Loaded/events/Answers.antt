@@ -1,5 +1,4 @@
-use Rattle.std.proofs.Common.{◌∙◌, ap}
-use Rattle.ds_machine.specs.States.{MachineState}
+use Rattle.run_ahead.proofs.Words.{◌∙◌, ap, MachineState}
 use Rattle.run_ahead.proofs.loaded.Loaded.events.Goals as goal
 
 pub returns : goal.returns

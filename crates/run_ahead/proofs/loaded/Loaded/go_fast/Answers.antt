@@ -1,9 +1,7 @@
-use Rattle.std.proofs.Common.{sym, ◌∙◌, ap, subst}
+use Rattle.run_ahead.proofs.Words.{sym, ◌∙◌, ap, subst, IsRunning, last_limit, MachineState, with_file, HasLimit, TakesSteps, belongs_put, limit_put}
 use Rattle.ds_ipc.specs.Ipcs.{other_proc}
-use Rattle.ds_machine.specs.Counting.{IsRunning, last_limit}
-use Rattle.ds_machine.specs.States.{MachineState, with_file}
-use Rattle.ds_machine.specs.TurnSteps.{HasLimit, IsTurnEnd, TakesSteps, due_or_never}
-use Rattle.ds_machine.proofs.Files.{belongs_put, end_put, limit_put, never_put, turn_put}
+use Rattle.ds_machine.specs.TurnLaws.{IsTurnEnd, due_or_never}
+use Rattle.ds_machine.proofs.Files.{end_put, never_put, turn_put}
 use Rattle.run_ahead.proofs.loaded.Loaded.go_fast.Goals as goal
 
 pub go_fast-requires-clause-running : goal.go_fast-requires-clause-running

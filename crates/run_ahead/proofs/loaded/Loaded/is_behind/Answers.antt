@@ -1,6 +1,4 @@
-use Rattle.std.proofs.Common.{◌∙◌, ap}
-use Rattle.ds_machine.specs.Acting.{is_behind}
-use Rattle.ds_machine.specs.States.{MachineState}
+use Rattle.run_ahead.proofs.Words.{◌∙◌, ap, is_behind, MachineState}
 use Rattle.run_ahead.proofs.loaded.Loaded.is_behind.Goals as goal
 
 pub returns : goal.returns

@@ -1,8 +1,5 @@
-use Rattle.std.proofs.Common.{◌≡◌, subst}
+use Rattle.run_ahead.proofs.Words.{◌≡◌, subst, MachineState, bytes_written, format_behind}
 use Rattle.std.specs.Prelude.{OnOk}
-use Rattle.ds_machine.specs.States.{MachineState}
-use Rattle.ds_state.specs.Formats.{bytes_written}
-use Rattle.run_ahead.specs.Saved.{format_behind}
 use Rattle.run_ahead.proofs.loaded.Loaded.pack.Goals as goal
 
 pub returns : goal.returns

@@ -1,8 +1,5 @@
-use Rattle.std.proofs.Common.{sym, subst}
-use Rattle.ds_machine.specs.Counting.{IsRunning, last_limit}
-use Rattle.ds_machine.specs.States.{MachineState, with_file}
-use Rattle.ds_machine.specs.StepAnswers.{Steps}
-use Rattle.ds_machine.specs.TurnSteps.{MayStep}
+use Rattle.run_ahead.proofs.Words.{sym, subst, IsRunning, last_limit, MachineState, with_file, Steps}
+use Rattle.ds_machine.specs.TurnLaws.{MayStep}
 use Rattle.ds_machine.proofs.Files.{may_step_put}
 use Rattle.run_ahead.proofs.loaded.Loaded.step.Goals as goal
 

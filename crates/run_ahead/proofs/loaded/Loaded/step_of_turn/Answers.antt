@@ -1,10 +1,4 @@
-use Rattle.std.proofs.Common.{sym, subst}
-use Rattle.ds_machine.specs.Counting.{IsRunning, last_limit}
-use Rattle.ds_machine.specs.Lagging.{CatchesUpFor}
-use Rattle.ds_machine.specs.Private.{rank_of}
-use Rattle.ds_machine.specs.States.{MachineState, with_file}
-use Rattle.ds_machine.specs.TurnSteps.{MayAct}
-use Rattle.ds_machine.proofs.Files.{may_act_put}
+use Rattle.run_ahead.proofs.Words.{sym, subst, IsRunning, last_limit, CatchesUpFor, rank_of, MachineState, with_file, MayAct, may_act_put}
 use Rattle.run_ahead.proofs.loaded.Loaded.step_of_turn.Goals as goal
 
 pub step_of_turn-requires-clause-running : goal.step_of_turn-requires-clause-running

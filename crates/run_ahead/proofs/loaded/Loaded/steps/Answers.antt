@@ -1,5 +1,4 @@
-use Rattle.std.proofs.Common.{◌∙◌, ap}
-use Rattle.ds_machine.specs.States.{ProcessorState}
+use Rattle.run_ahead.proofs.Words.{◌∙◌, ap, ProcessorState}
 use Rattle.run_ahead.proofs.LoadedMachine.{own_loaded}
 use Rattle.run_ahead.proofs.loaded.Loaded.steps.Goals as goal
 

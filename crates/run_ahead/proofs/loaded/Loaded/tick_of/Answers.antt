@@ -1,6 +1,4 @@
-use Rattle.std.proofs.Common.{◌∙◌, ap}
-use Rattle.ds_machine.specs.States.{ProcessorState}
-use Rattle.ds_machine.specs.Steps.{tick_of}
+use Rattle.run_ahead.proofs.Words.{◌∙◌, ap, ProcessorState, tick_of}
 use Rattle.run_ahead.proofs.LoadedMachine.{own_loaded}
 use Rattle.run_ahead.proofs.loaded.Loaded.tick_of.Goals as goal
 

@@ -1,5 +1,5 @@
 use Rattle.std.proofs.Common.{arith}
-use Rattle.ds_machine.specs.Counting.{last_limit}
+use Rattle.ds_machine.specs.CountingLaws.{last_limit}
 use Rattle.ds_machine.specs.States.{with_file}
 use Rattle.machine_tests.proofs.tests.told.Tested.new.Goals as goal
 

@@ -2,12 +2,12 @@ use Rattle.std.specs.Prelude.{ℕ, ◌+◌, ◌*◌, ◌^◌, ◌≡◌, ◌<◌
 use Rattle.ds_base.specs.declared.left_out.LeftOut.{LeftOut}
 use Rattle.ds_base.specs.declared.processors.Proc.TheVariants.{Nine, Seven}
 use Rattle.ds_base.specs.declared.ticks.Tick.{Tick}
-use Rattle.ds_runs.specs.Lasts.{LeadsTo}
+use Rattle.ds_runs.specs.LastLaws.{LeadsTo}
 use Rattle.ds_runs.specs.Runs.{IsOver, Makes, Stops, due_at}
 use Rattle.ds_machine.specs.Reference.{Shown, dues_of, reference, reference_step}
 use Rattle.ds_machine.specs.Sound.{IsSound}
 use Rattle.ds_machine.specs.States.{MachineState, counts_of, with_file}
-use Rattle.ds_machine.specs.TurnSteps.{MayStep, own_remaining}
+use Rattle.ds_machine.specs.TurnLaws.{MayStep, own_remaining}
 use Rattle.ds_machine.specs.declared.answers.Done.{Done}
 use Rattle.ds_machine.specs.declared.answers.Done.TheVariants.{Made, Frame, Stopped}
 

@@ -7,7 +7,7 @@ use Rattle.ds_dma.specs.States.{DmaState, channel_at, last_tick}
 use Rattle.ds_timers.specs.Irqs.{events, interrupts_of}
 use Rattle.ds_timers.specs.Timing.{timer_at}
 use Rattle.gx_geometry.specs.States.{no_swap}
-use Rattle.video2d.specs.Invariants.{IsVideo}
+use Rattle.video2d.specs.VideoLaws.{IsVideo}
 use Rattle.video2d.specs.Scans.{scan_before}
 use Rattle.ds_ports.specs.Io.{IoState, io_of}
 use Rattle.ds_ports.specs.ProcessorIo.{ProcessorIoState, kept_keycnt}

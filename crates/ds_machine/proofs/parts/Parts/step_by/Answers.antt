@@ -1,22 +1,19 @@
-use Rattle.std.proofs.Common.{ℕ, ◌<◌, ◌≤◌, ◌^◌, inl, inr, refl, sym, ◌∙◌, ap, arith}
+use Rattle.ds_machine.proofs.Words.{ℕ, ◌<◌, ◌≤◌, ◌^◌, inl, inr, refl, sym, ◌∙◌, ap, arith, Cost, ProcessorState, tick_of}
 use Rattle.arm_core.specs.declared.outcomes.Stepped as arm
-use Rattle.arm_core.specs.declared.outcomes.Stepped.TheVariants.{Cost}
-use Rattle.ds_machine.specs.States.{ProcessorState}
-use Rattle.ds_machine.specs.Steps.{tick_of}
 use Rattle.ds_machine.proofs.FastTurns.{below_turn, is_due, least_now, over_at_end, over_past, went_fast}
 use Rattle.ds_machine.proofs.Files.{some_sound}
 use Rattle.ds_machine.proofs.GoingSteps.{ahead_data, ahead_if, ahead_may, line_is}
 use Rattle.ds_machine.proofs.GuardedSteps.{free_for}
 use Rattle.ds_machine.proofs.ProcessorSteps.{reached_early, reached_few}
 use Rattle.ds_machine.proofs.Running.{few_steps}
-use Rattle.ds_machine.proofs.parts.Parts.step_fast.Goals.{else-ahead-via-then-ahead+else-not-may_go_on, else-ahead-via-else-ahead}
-use Rattle.ds_machine.proofs.parts.Parts.step_fast.Goals as goal
+use Rattle.ds_machine.proofs.parts.Parts.step_by.Goals.{else-ahead-via-then-ahead+else-not-may_go_on, else-ahead-via-else-ahead}
+use Rattle.ds_machine.proofs.parts.Parts.step_by.Goals as goal
 
 pub may_go_on-requires : goal.may_go_on-requires
-may_go_on-requires c = record { kept = c.requires.goes.kept; end = c.requires.goes.events }
+may_go_on-requires g c = record { kept = c.requires.goes.kept; end = c.requires.goes.events }
 
 pub returns-then-not-may_go_on : goal.returns-then-not-may_go_on
-returns-then-not-may_go_on c = (
+returns-then-not-may_go_on g c = (
   λ b.
       (let s = c.args.self.now in
       let proc = c.args.proc in
@@ -34,7 +31,7 @@ returns-then-not-may_go_on c = (
 )
 
 pub take_fast-fast-requires-clause-early : goal.take_fast-fast-requires-clause-early
-take_fast-fast-requires-clause-early c =
+take_fast-fast-requires-clause-early g c =
     let n = c.processor.result.now.due in
     let early = c.requires.early in
     let due = ap (λ (p : ProcessorState). p.due) c.processor.ensures in
@@ -47,10 +44,10 @@ take_fast-fast-requires-clause-early c =
     ]
 
 pub take_fast-fast-requires-clause-line : goal.take_fast-fast-requires-clause-line
-take_fast-fast-requires-clause-line c = sym c.requires.goes.down ∙ line_is c.args.next_event c.args.self.now c.requires.goes.kept c.args.proc
+take_fast-fast-requires-clause-line g c = sym c.requires.goes.down ∙ line_is c.args.next_event c.args.self.now c.requires.goes.kept c.args.proc
 
 pub returns-then-fast : goal.returns-then-fast
-returns-then-fast c = (
+returns-then-fast g c = (
   λ b.
       (let s = c.args.self.now in
       let proc = c.args.proc in
@@ -70,7 +67,7 @@ returns-then-fast c = (
 )
 
 pub go_on-requires-clause-early : goal.go_on-requires-clause-early
-go_on-requires-clause-early c =
+go_on-requires-clause-early g c =
     let n = c.processor.result.now.due in
     let early = c.requires.early in
     let due = ap (λ (p : ProcessorState). p.due) c.processor.ensures in
@@ -86,13 +83,13 @@ go_on-requires-clause-early c =
     reached_early c.args.proc (record { 0 = n }) c.args.self.now c.take_fast-fast.new.self (c.take_fast-fast.ensures.machine some) (ap tick_of c.processor.ensures) low
 
 pub go_on-requires-clause-counted : goal.go_on-requires-clause-counted
-go_on-requires-clause-counted c =
+go_on-requires-clause-counted g c =
     let some : 0 < c.take_fast-fast.result.clocks = (let more = c.if-fast-eq0.false in omega (arith, more)) in
     reached_few c.args.proc (record { 0 = c.processor.result.now.due }) c.args.self.now c.take_fast-fast.new.self (c.take_fast-fast.ensures.machine some)
     (few_steps c.args.proc c.args.self.now c.requires.goes.running)
 
 pub returns : goal.returns
-returns c =
+returns g c =
     let s = c.args.self.now in
     let proc = c.args.proc in
     let until = c.args.until.0 in
@@ -121,5 +118,5 @@ returns c =
     ]
 
 pub take_fast-fast-requires-clause-room : goal.take_fast-fast-requires-clause-room
-take_fast-fast-requires-clause-room c =
+take_fast-fast-requires-clause-room g c =
     free_for c.args.proc c.args.self.now (some_sound c.args.self.now c.requires.goes.running).parts c.requires.goes.least.free

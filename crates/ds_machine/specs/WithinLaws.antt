@@ -6,11 +6,11 @@ use Rattle.ds_card.specs.Cards.{CardState, ready_word}
 use Rattle.ds_card.specs.Saved.{HasItsWord}
 use Rattle.ds_card.specs.declared.cards.Transfer.{Transfer}
 use Rattle.ds_ports.specs.Io.{io_at_boot}
-use Rattle.ds_ports.specs.Within.{AreWithinTick}
+use Rattle.ds_ports.specs.WithinLaws.{AreWithinTick}
 use Rattle.ds_runs.specs.Runs.{At, Runs}
 use Rattle.ds_machine.specs.Booted.{machine_booted}
-use Rattle.ds_machine.specs.Counting.{HasShortRun, run_of}
-use Rattle.ds_machine.specs.Halting.{KeepsNoMore}
+use Rattle.ds_machine.specs.CountingLaws.{HasShortRun, run_of}
+use Rattle.ds_machine.specs.HaltingLaws.{KeepsNoMore}
 use Rattle.ds_machine.specs.Reference.{Shown, reference}
 use Rattle.ds_machine.specs.Saved.{script_from}
 use Rattle.ds_machine.specs.Sound.{HasSoundParts}

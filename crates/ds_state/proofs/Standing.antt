@@ -1,8 +1,7 @@
--- What a unit owes for its format.
-use Rattle.std.specs.Prelude.{ℕ, ◌≡◌, ◌+◌, ◌<◌, true, List, [], ◌++◌, length, slice_index, Ok}
+-- What a state keeps of a format's rules, and that what is made of values says these values of itself: by these the laws of a format are proved.
+use Rattle.std.specs.Prelude.{ℕ, ◌≡◌, true, List, length}
 use Rattle.std.specs.List.{AllByRecursion}
-use Rattle.ds_state.specs.Formats.{Format, done, then_field, then_part, list, Fits, bytes_written}
-use Rattle.ds_state.specs.Reading.{Left, read_format}
+use Rattle.ds_state.specs.Formats.{Format, done, then_field, then_part, list, Fits}
 
 -- what a format makes of a state's own values
 abbrev pub made : {S A : Type 0} → Format S A → S → A
@@ -35,16 +34,3 @@ Says state (list n f get next) at P =
 -- a format of states is exact: what is made says what it was made of
 abbrev pub IsExact : {S : Type 0} → Format S S → ℕ → Type 0
 IsExact f at = Says (λ s. s) f at (λ s. Unit {0})
-
--- the bytes of a state, whatever stands behind them, are read as that state, and what is left is what stands behind
-abbrev pub RoundTrips : {S : Type 0} → Format S S → ℕ → S → Type 0
-RoundTrips f at s =
-    (place : ℕ) (rest : List ℕ) → read_format f at (record { place = place; bytes = bytes_written f [] s ++ rest })
-    ≡ Ok (s, record { place = place + length (bytes_written f [] s); bytes = rest })
-
--- bytes that are read as a state are its bytes, and then what is left
-abbrev pub OneSpelling : {S : Type 0} → Format S S → ℕ → Type 0
-OneSpelling {S = S} f at =
-    (place : ℕ) (bytes : List ℕ) (s : S) (left : Left) → ((i : ℕ) → slice_index bytes i < 256)
-    → read_format f at (record { place = place; bytes = bytes }) ≡ Ok (s, left)
-    → bytes ≡ bytes_written f [] s ++ left.bytes

@@ -105,12 +105,18 @@ fn seen(gx: &Gx, act: Act) -> (u32, u32) {
     }
 }
 
+/// A new engine.
+fn renew(gx: &mut Gx, alloc: Global) -> Result<(), AllocError> {
+    *gx = Gx::new(alloc)?;
+    Ok(())
+}
+
 fn try_acts(rt: &impl Abort, alloc: Global, table: &str, acts: &[Act]) -> Result<(), AllocError> {
     let mut gx = Gx::new(alloc)?;
     for (number, act) in acts.iter().enumerate() {
         let (got, wanted) = match *act {
             New => {
-                gx = Gx::new(alloc)?;
+                renew(&mut gx, alloc)?;
                 (0, 0)
             }
             other => taken(&mut gx, other),

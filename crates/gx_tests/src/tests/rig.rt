@@ -30,27 +30,33 @@ impl Rig {
         })
     }
 
+    /// A new engine.
+    fn renew(&mut self, alloc: Global) -> Result<(), AllocError> {
+        *self = Rig::new(alloc)?;
+        Ok(())
+    }
+
     /// Takes one line, and gives what was seen and what is wanted.
     pub fn seen(&mut self, alloc: Global, line: Line) -> Result<(u32, u32), AllocError> {
         match line {
-            Line::New => *self = Rig::new(alloc)?,
+            Line::New => self.renew(alloc)?,
             Line::Side(attributes, side, made) => {
-                *self = Rig::new(alloc)?;
+                self.renew(alloc)?;
                 let seen = self.side(attributes, side);
                 return Ok(((seen != made) as u32, 0));
             }
             Line::Across(kind, earlier, later, made) => {
-                *self = Rig::new(alloc)?;
+                self.renew(alloc)?;
                 let seen = self.across(kind, earlier, later);
                 return Ok(((seen != made) as u32, 0));
             }
             Line::Lit(attributes, vector, light, first, second, normal, colour) => {
-                *self = Rig::new(alloc)?;
+                self.renew(alloc)?;
                 let words = [tens(vector), light, first, second, tens(normal)];
                 return Ok((self.lit(attributes, words), colour as u32));
             }
             Line::Mapped(mode, normal, x, s, t) => {
-                *self = Rig::new(alloc)?;
+                self.renew(alloc)?;
                 return Ok((self.mapped(mode, normal, x), halves(s, t)));
             }
             other => return Ok(self.taken(other)),

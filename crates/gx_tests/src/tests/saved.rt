@@ -87,15 +87,25 @@ fn wrong(alloc: Global, engine: &Geometry, rows: &[Row]) -> Result<(usize, u32),
     Ok((rows.len(), (bytes.len() % 0x100_0000) as u32))
 }
 
-#[test]
-fn the_engine_is_taken_back_from_its_bytes(rt: HostRuntime) -> Result<(), AllocError> {
-    let mut engine = Geometry::new(rt.alloc())?;
+/// Three vertices of a kind of run.
+fn three_vertices(alloc: Global, kind: u32) -> Result<Geometry, AllocError> {
+    let mut engine = Geometry::new(alloc)?;
     give(&mut engine, 0x29, &[0xC0]);
-    give(&mut engine, 0x40, &[0]);
+    give(&mut engine, 0x40, &[kind]);
     give(&mut engine, 0x23, &[0, 0]);
     give(&mut engine, 0x23, &[0x1000, 0]);
     give(&mut engine, 0x23, &[0x1000_0000, 0]);
-    let (row, got) = wrong(rt.alloc(), &engine, &ROWS)?;
+    Ok(engine)
+}
+
+fn wrong_of_triangle(alloc: Global) -> Result<(usize, u32), AllocError> {
+    let engine = three_vertices(alloc, 0)?;
+    wrong(alloc, &engine, &ROWS)
+}
+
+#[test]
+fn the_engine_is_taken_back_from_its_bytes(rt: HostRuntime) -> Result<(), AllocError> {
+    let (row, got) = wrong_of_triangle(rt.alloc())?;
     assert!(rt; row == ROWS.len() && got == 4749, "row {row}: {got}");
     Ok(())
 }
@@ -116,19 +126,35 @@ const SWAPPED: [Row; 4] = [
     (4_653, 1, 191_025, 10_000, 14_653),
 ];
 
-#[test]
-fn full_lists_are_taken_back_from_their_bytes(rt: HostRuntime) -> Result<(), AllocError> {
-    let mut engine = Geometry::new(rt.alloc())?;
+fn filled(alloc: Global) -> Result<Geometry, AllocError> {
+    let mut engine = Geometry::new(alloc)?;
     give(&mut engine, 0x29, &[0xC0]);
     give(&mut engine, 0x40, &[0]);
     for _ in 0..6_145 {
         give(&mut engine, 0x23, &[0, 0]);
     }
-    let (row, got) = wrong(rt.alloc(), &engine, &FULL)?;
-    assert!(rt; row == FULL.len() && got == 191_026, "row {row}: {got}");
-    engine.swap(Tick(10_000));
-    let (row, got) = wrong(rt.alloc(), &engine, &SWAPPED)?;
-    assert!(rt; row == SWAPPED.len() && got == 191_026, "row {row}: {got}");
+    Ok(engine)
+}
+
+/// The first row that doesn't come so, and what came: of the full lists, or once they are swapped.
+fn wrong_of_filled(alloc: Global, swaps: bool, rows: &[Row]) -> Result<(usize, u32), AllocError> {
+    let mut engine = filled(alloc)?;
+    if swaps {
+        engine.swap(Tick(10_000));
+    }
+    wrong(alloc, &engine, rows)
+}
+
+#[test]
+fn full_lists_are_taken_back_from_their_bytes(rt: HostRuntime) -> Result<(), AllocError> {
+    let tables: [(bool, &[Row]); 2] = [(false, &FULL), (true, &SWAPPED)];
+    for (swaps, rows) in tables {
+        let (row, got) = wrong_of_filled(rt.alloc(), swaps, rows)?;
+        assert!(rt;
+            row == rows.len() && got == 191_026,
+            "swapped: {swaps}, row {row}: {got}"
+        );
+    }
     Ok(())
 }
 
@@ -157,28 +183,35 @@ fn next_made(engine: &mut Geometry) -> (usize, [u16; 4]) {
     }
 }
 
+/// The bytes of a strip of three vertices with another place at one of them.
+fn with_place(alloc: Global, at: usize, place: [u8; 2]) -> Result<Vec<u8>, AllocError> {
+    let engine = three_vertices(alloc, 2)?;
+    let mut packer = Packer::new(alloc);
+    engine.pack(&mut packer)?;
+    let mut bytes = packer.finish();
+    for (i, byte) in place.iter().enumerate() {
+        if at < bytes.len() - i.min(bytes.len()) {
+            bytes[at + i] = *byte;
+        }
+    }
+    Ok(bytes)
+}
+
+/// What the engine of these bytes makes next; 99 polygons where they are refused.
+fn next_of(alloc: Global, bytes: &[u8]) -> (usize, [u16; 4]) {
+    let (some, _) = bytes.split_at(bytes.len().min(0x10_0000));
+    let mut from = Unpacker::new(some);
+    match Geometry::unpack(alloc, &mut from, Tick(100)) {
+        Ok(mut engine) => next_made(&mut engine),
+        Err(_) => (99, [0; 4]),
+    }
+}
+
 #[test]
 fn the_next_polygon_is_made_where_the_bytes_say(rt: HostRuntime) -> Result<(), AllocError> {
-    let mut engine = Geometry::new(rt.alloc())?;
-    give(&mut engine, 0x29, &[0xC0]);
-    give(&mut engine, 0x40, &[2]);
-    give(&mut engine, 0x23, &[0, 0]);
-    give(&mut engine, 0x23, &[0x1000, 0]);
-    give(&mut engine, 0x23, &[0x1000_0000, 0]);
     for (number, (at, place, count, corners)) in PLACES.iter().enumerate() {
-        let mut packer = Packer::new(rt.alloc());
-        engine.pack(&mut packer)?;
-        let mut bytes = packer.finish();
-        if *at + 1 < bytes.len() {
-            bytes[*at] = place[0];
-            bytes[*at + 1] = place[1];
-        }
-        let (some, _) = bytes.as_slice().split_at(bytes.len().min(0x10_0000));
-        let mut from = Unpacker::new(some);
-        let (got, indices) = match Geometry::unpack(rt.alloc(), &mut from, Tick(100)) {
-            Ok(mut other) => next_made(&mut other),
-            Err(_) => (99, [0; 4]),
-        };
+        let bytes = with_place(rt.alloc(), *at, *place)?;
+        let (got, indices) = next_of(rt.alloc(), bytes.as_slice());
         assert!(rt; got == *count && indices == *corners, "row {number}: {got}");
     }
     Ok(())

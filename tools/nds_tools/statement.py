@@ -185,6 +185,8 @@ class Statement:
         names, by_name = self.sources.spec(path)
         if name in by_name:
             self.add(by_name[name], names, by_name, crate)
+        elif name in names:
+            self.add_spec(*names[name])  # it is handed on from there
 
     def add_declared(self, crate, module, name):
         """A type that the sources declare: its constructors stand in modules of its name."""

@@ -1,14 +1,15 @@
 use Rattle.std.proofs.Common.{ℕ, zero, suc, ◌≡◌, ◌<◌, refl, arith, Bool, true, false}
 use Rattle.std.specs.Prelude.{◌||◌, if◌then◌else◌}
 use Rattle.ds_base.proofs.Choices.{either_by, never}
-use Rattle.ds_dma.specs.Channels.{ChangesChannel, ChannelState, empties, is_running, latches, stays}
+use Rattle.ds_dma.specs.declared.channels.Channel.{Channel}
+use Rattle.ds_dma.specs.Channels.{ChangesChannel, empties, is_running, latches, stays}
 use Rattle.ds_dma.specs.Controls.{is_enabled}
 use Rattle.ds_dma.specs.Relations.{ControlsChange, LeastIsFound}
 use Rattle.ds_dma.specs.States.{channel_at}
 
 pub changes : ControlsChange
 changes proc which c control now =
-    let P : ChannelState → Type 0 = ChangesChannel proc which c control now in
+    let P : Channel → Type 0 = ChangesChannel proc which c control now in
     either_by P (is_enabled control) _ _
     (λ on. either_by P (is_enabled c.cnt) _ _ (λ was. stays was on refl) (λ was. latches was on refl))
     (λ off. empties off refl)

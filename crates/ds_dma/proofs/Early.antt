@@ -9,7 +9,8 @@ use Rattle.ds_dma.specs.declared.controls.Cause.{Cause}
 use Rattle.ds_dma.specs.declared.controls.DmaPort.{DmaPort}
 use Rattle.ds_dma.specs.declared.controls.DmaPort.TheVariants.{Source, Target, Control}
 use Rattle.ds_dma.specs.Controls.{kept_channel_control, is_enabled, is_armed_again, starts_immediately}
-use Rattle.ds_dma.specs.Channels.{ChannelState, channel_controlled, channel_set, is_triggered, triggered, is_last_unit, is_last_of_burst, after_unit}
+use Rattle.ds_dma.specs.declared.channels.Channel.{Channel}
+use Rattle.ds_dma.specs.Channels.{channel_controlled, channel_set, is_triggered, triggered, is_last_unit, is_last_of_burst, after_unit}
 use Rattle.ds_dma.specs.States.{DmaState, HasEarlyTicks, channel_at, last_tick}
 use Rattle.ds_dma.proofs.Fours.{at_mapped, set_holds}
 
@@ -18,35 +19,35 @@ early_where : (now : Tick) (free : Bool) → now.0 ≤ 2 ^ 56 → IsEarly (if fr
 early_where now true h = h
 early_where now false h = tt
 
-controlled_early : (proc : Proc) (which : ℕ) (c : ChannelState) (control : ℕ) (now : Tick) → IsEarly c.trigger → now.0 ≤ 2 ^ 56
+controlled_early : (proc : Proc) (which : ℕ) (c : Channel) (control : ℕ) (now : Tick) → IsEarly c.trigger → now.0 ≤ 2 ^ 56
     → IsEarly (channel_controlled proc which c control now).trigger
 controlled_early proc which c control now was early =
-    let P : ChannelState → Type 0 = λ x. IsEarly x.trigger in
+    let P : Channel → Type 0 = λ x. IsEarly x.trigger in
     either_by P (is_enabled control) _ _
     (λ on. either_by P (is_enabled c.cnt) _ _ (λ e. was) (λ e. early_where now (starts_immediately proc control) early))
     (λ off. tt)
 
 -- after a write at an early tick a channel's trigger is early still
-pub written_early : (proc : Proc) (which : ℕ) (port : DmaPort) (value : ℕ) (now : Tick) (c : ChannelState) → IsEarly c.trigger → now.0 ≤ 2 ^ 56
+pub written_early : (proc : Proc) (which : ℕ) (port : DmaPort) (value : ℕ) (now : Tick) (c : Channel) → IsEarly c.trigger → now.0 ≤ 2 ^ 56
     → IsEarly (channel_set proc which port value now c).trigger
 written_early proc which Source value now c was early = was
 written_early proc which Target value now c was early = was
 written_early proc which Control value now c was early = controlled_early proc which c (kept_channel_control proc which value) now was early
 
 -- and after an event at one
-pub triggered_early : (proc : Proc) (cause : Cause) (now : Tick) (c : ChannelState) → IsEarly c.trigger → now.0 ≤ 2 ^ 56
+pub triggered_early : (proc : Proc) (cause : Cause) (now : Tick) (c : Channel) → IsEarly c.trigger → now.0 ≤ 2 ^ 56
     → IsEarly (triggered proc cause now c).trigger
 triggered_early proc cause now c was early =
-    either_by (λ (x : ChannelState). IsEarly x.trigger) (is_triggered proc cause c) _ _ (λ e. early) (λ e. was)
+    either_by (λ (x : Channel). IsEarly x.trigger) (is_triggered proc cause c) _ _ (λ e. early) (λ e. was)
 
 -- and after its first unit
-pub taken_early : (proc : Proc) (which : ℕ) (c : ChannelState) → IsEarly c.trigger → IsEarly (after_unit proc which c).trigger
+pub taken_early : (proc : Proc) (which : ℕ) (c : Channel) → IsEarly c.trigger → IsEarly (after_unit proc which c).trigger
 taken_early proc which c was =
-    let P : ChannelState → Type 0 = λ x. IsEarly x.trigger in
+    let P : Channel → Type 0 = λ x. IsEarly x.trigger in
     either_by P (not (is_last_unit c)) _ _ (λ e. either_by P (is_last_of_burst c) _ _ (λ f. tt) (λ f. was)) (λ e. either_by P (is_armed_again proc c.cnt) _ _ (λ f. tt) (λ f. tt))
 
 -- with another channel in one place and another last unit, both early, all are early still
-pub early_set : (s : DmaState) (which : ℕ) (c : ChannelState) (last : Option LastUnit) → length s.channels ≡ 4 → HasEarlyTicks s → which < 4
+pub early_set : (s : DmaState) (which : ℕ) (c : Channel) (last : Option LastUnit) → length s.channels ≡ 4 → HasEarlyTicks s → which < 4
     → IsEarly c.trigger → IsEarly (last_tick last) → HasEarlyTicks (record s { channels = slice_set s.channels which c; last = last })
 early_set s which c last four was l put early = record {
   trigger = λ i m. set_holds (λ x. IsEarly x.trigger) s.channels which c four l put i (was.trigger i m);
@@ -54,9 +55,9 @@ early_set s which c last four was l put early = record {
 }
 
 -- and they are where what is done to each keeps it early
-pub mapped_early : (s : DmaState) (f : ChannelState → ChannelState) → length s.channels ≡ 4 → ((c : ChannelState) → IsEarly c.trigger → IsEarly (f c).trigger)
+pub mapped_early : (s : DmaState) (f : Channel → Channel) → length s.channels ≡ 4 → ((c : Channel) → IsEarly c.trigger → IsEarly (f c).trigger)
     → HasEarlyTicks s → HasEarlyTicks (record s { channels = map f s.channels })
 mapped_early s f four keeps was = record {
-  trigger = λ i m. subst (λ (x : ChannelState). IsEarly x.trigger) (sym (at_mapped f s.channels i four m)) (keeps (channel_at s.channels i) (was.trigger i m));
+  trigger = λ i m. subst (λ (x : Channel). IsEarly x.trigger) (sym (at_mapped f s.channels i four m)) (keeps (channel_at s.channels i) (was.trigger i m));
   last = was.last;
 }

@@ -9,8 +9,9 @@ use Rattle.ds_dma.specs.declared.controls.Cause.{Cause}
 use Rattle.ds_dma.specs.declared.controls.Cause.TheVariants.{VBlank, HBlank, Card, Geometry}
 use Rattle.ds_dma.specs.declared.controls.DmaPort.{DmaPort}
 use Rattle.ds_dma.specs.declared.controls.DmaPort.TheVariants.{Source, Target, Control}
-use Rattle.ds_dma.specs.Controls.{kept_channel_control, channel_control_mask, greatest_count, units_counted, is_enabled, disabled, is_armed_again, waits_for, burst_of, latches_again}
-use Rattle.ds_dma.specs.Channels.{ChannelState, IsChannel, is_running, latched, emptied, channel_controlled, channel_set, is_triggered, triggered, next_to, after_unit, is_last_unit, is_last_of_burst, rest_of}
+use Rattle.ds_dma.specs.Controls.{most_burst, kept_channel_control, channel_control_mask, greatest_count, units_counted, is_enabled, disabled, is_armed_again, waits_for, burst_of, latches_again}
+use Rattle.ds_dma.specs.declared.channels.Channel.{Channel}
+use Rattle.ds_dma.specs.Channels.{IsChannel, is_running, latched, emptied, channel_controlled, channel_set, is_triggered, triggered, next_to, after_unit, is_last_unit, is_last_of_burst, rest_of}
 
 -- the bits that are kept are kept again
 pub kept_twice : (proc : Proc) (which value : ℕ) → kept_channel_control proc which (kept_channel_control proc which value) ≡ kept_channel_control proc which value
@@ -41,7 +42,7 @@ units_within proc which control = grind (arith, rules)
 wider : (n : ℕ) → n < 2 ^ 28 → n < 2 ^ 32
 wider n h = omega (arith, h)
 
-emptied_is : (proc : Proc) (which : ℕ) (c : ChannelState) (control : ℕ) → IsChannel proc which c → kept_channel_control proc which control ≡ control
+emptied_is : (proc : Proc) (which : ℕ) (c : Channel) (control : ℕ) → IsChannel proc which c → kept_channel_control proc which control ≡ control
     → is_enabled control ≡ false → IsChannel proc which (emptied c control)
 emptied_is proc which c control is kept off = record {
   sad = is.sad;
@@ -57,7 +58,7 @@ emptied_is proc which c control is kept off = record {
   none = λ e. (refl, refl, refl, refl);
 }
 
-latched_is : (proc : Proc) (which : ℕ) (c : ChannelState) (control : ℕ) (now : Tick) → IsChannel proc which c → kept_channel_control proc which control ≡ control
+latched_is : (proc : Proc) (which : ℕ) (c : Channel) (control : ℕ) (now : Tick) → IsChannel proc which c → kept_channel_control proc which control ≡ control
     → is_enabled control ≡ true → IsChannel proc which (latched proc which c control now)
 latched_is proc which c control now is kept on = record {
   sad = is.sad;
@@ -73,10 +74,10 @@ latched_is proc which c control now is kept on = record {
   none = λ off. never (is_enabled control) on off;
 }
 
-controlled_is : (proc : Proc) (which : ℕ) (c : ChannelState) (control : ℕ) (now : Tick) → IsChannel proc which c → kept_channel_control proc which control ≡ control
+controlled_is : (proc : Proc) (which : ℕ) (c : Channel) (control : ℕ) (now : Tick) → IsChannel proc which c → kept_channel_control proc which control ≡ control
     → IsChannel proc which (channel_controlled proc which c control now)
 controlled_is proc which c control now is kept =
-    let P : ChannelState → Type 0 = IsChannel proc which in
+    let P : Channel → Type 0 = IsChannel proc which in
     either_by P (is_enabled control) _ _
     (λ on. either_by P (is_enabled c.cnt) _ _
     (λ was. record {
@@ -96,7 +97,7 @@ controlled_is proc which c control now is kept =
     (λ off. emptied_is proc which c control is kept off)
 
 -- after a write it is a channel still
-pub written_is : (proc : Proc) (which : ℕ) (port : DmaPort) (value : ℕ) (now : Tick) (c : ChannelState) → IsChannel proc which c
+pub written_is : (proc : Proc) (which : ℕ) (port : DmaPort) (value : ℕ) (now : Tick) (c : Channel) → IsChannel proc which c
     → IsChannel proc which (channel_set proc which port value now c)
 written_is proc which Source value now c is = record {
   sad = omega arith;
@@ -128,15 +129,15 @@ written_is proc which Control value now c is =
     let control = kept_channel_control proc which value in
     controlled_is proc which c control now is (kept_twice proc which value)
 
--- a burst has 112 units at most, and no more than are left
-burst_within : (cause : Cause) (left : ℕ) → (burst_of cause left ≤ 112) × (burst_of cause left ≤ left)
+-- a burst has no more units than one may have, and no more than are left
+burst_within : (cause : Cause) (left : ℕ) → (burst_of cause left ≤ most_burst) × (burst_of cause left ≤ left)
 burst_within VBlank left = (omega arith, omega arith)
 burst_within HBlank left = (omega arith, omega arith)
 burst_within Card left = (omega arith, omega arith)
 burst_within Geometry left = (grind arith, grind arith)
 
 -- after an event it is a channel still
-pub triggered_is : (proc : Proc) (which : ℕ) (cause : Cause) (now : Tick) (c : ChannelState) → IsChannel proc which c
+pub triggered_is : (proc : Proc) (which : ℕ) (cause : Cause) (now : Tick) (c : Channel) → IsChannel proc which c
     → IsChannel proc which (triggered proc cause now c)
 triggered_is proc which cause now c is =
     either_by (IsChannel proc which) (is_triggered proc cause c) _ _
@@ -164,7 +165,7 @@ chosen_below true x y h i = h
 chosen_below false x y h i = i
 
 -- what is left after a unit that isn't the last one
-rest_is : (proc : Proc) (which : ℕ) (c : ChannelState) (next : Option Tick) → IsChannel proc which c → is_enabled c.cnt ≡ true → c.remaining ≢ 1
+rest_is : (proc : Proc) (which : ℕ) (c : Channel) (next : Option Tick) → IsChannel proc which c → is_enabled c.cnt ≡ true → c.remaining ≢ 1
     → (is_some next ≡ false → c.burst - 1 ≡ 0) → IsChannel proc which (record (rest_of c) { trigger = next })
 rest_is proc which c next is on ne waits = record {
   sad = is.sad;
@@ -181,9 +182,9 @@ rest_is proc which c next is on ne waits = record {
 }
 
 -- and so it is after its first unit
-pub taken_is : (proc : Proc) (which : ℕ) (c : ChannelState) → IsChannel proc which c → is_enabled c.cnt ≡ true → IsChannel proc which (after_unit proc which c)
+pub taken_is : (proc : Proc) (which : ℕ) (c : Channel) → IsChannel proc which c → is_enabled c.cnt ≡ true → IsChannel proc which (after_unit proc which c)
 taken_is proc which c is on =
-    let P : ChannelState → Type 0 = IsChannel proc which in
+    let P : Channel → Type 0 = IsChannel proc which in
     either_by P (not (is_last_unit c)) _ _
     (λ e. (let ne = unequal c.remaining 1 (not_true (is_last_unit c) e) in
     either_by P (is_last_of_burst c) _ _
@@ -210,5 +211,5 @@ by_enable true trigger f r = refl
 by_enable false trigger f r = never (is_some trigger) r (ap is_some (f refl))
 
 -- only a channel that is enabled runs
-pub runs_on : (proc : Proc) (which : ℕ) (c : ChannelState) → IsChannel proc which c → is_running c ≡ true → is_enabled c.cnt ≡ true
+pub runs_on : (proc : Proc) (which : ℕ) (c : Channel) → IsChannel proc which c → is_running c ≡ true → is_enabled c.cnt ≡ true
 runs_on proc which c is r = by_enable (is_enabled c.cnt) c.trigger (λ e. (is.none e).3) r

@@ -1,13 +1,14 @@
 use Rattle.std.proofs.Common.{ℕ, zero, suc, ◌<◌, [], ◌∷◌, Option, refl, arith}
 use Rattle.ds_base.specs.Schedules.{IsEarly}
 use Rattle.ds_base.specs.declared.processors.Proc.{Proc}
-use Rattle.ds_dma.specs.Channels.{ChannelState, IsChannel}
+use Rattle.ds_dma.specs.declared.channels.Channel.{Channel}
+use Rattle.ds_dma.specs.Channels.{IsChannel}
 use Rattle.ds_dma.specs.States.{HasEarlyTicks, IsDma, WaitsBriefly, channel_at, last_tick}
 use Rattle.ds_dma.specs.declared.channels.LastUnit.{LastUnit}
 
 -- Four that are each a channel in their place are the channels.
 
-each_is : (proc : Proc) (a b c d : ChannelState) → IsChannel proc 0 a → IsChannel proc 1 b → IsChannel proc 2 c → IsChannel proc 3 d
+each_is : (proc : Proc) (a b c d : Channel) → IsChannel proc 0 a → IsChannel proc 1 b → IsChannel proc 2 c → IsChannel proc 3 d
     → (which : ℕ) → which < 4 → IsChannel proc which (channel_at (a ∷ b ∷ c ∷ d ∷ []) which)
 each_is proc a b c d p q r s zero l = p
 each_is proc a b c d p q r s (suc zero) l = q
@@ -15,11 +16,11 @@ each_is proc a b c d p q r s (suc (suc zero)) l = r
 each_is proc a b c d p q r s (suc (suc (suc zero))) l = s
 each_is proc a b c d p q r s (suc (suc (suc (suc n)))) l = absurd (omega (arith, l))
 
-pub four_made : (proc : Proc) (a b c d : ChannelState) (last : Option LastUnit) → IsChannel proc 0 a → IsChannel proc 1 b → IsChannel proc 2 c
+pub four_made : (proc : Proc) (a b c d : Channel) (last : Option LastUnit) → IsChannel proc 0 a → IsChannel proc 1 b → IsChannel proc 2 c
     → IsChannel proc 3 d → WaitsBriefly last → IsDma (record { proc = proc; channels = a ∷ b ∷ c ∷ d ∷ []; last = last })
 four_made proc a b c d last p q r s brief = record { four = refl; each = each_is proc a b c d p q r s; last = brief }
 
-each_early : (a b c d : ChannelState) → IsEarly a.trigger → IsEarly b.trigger → IsEarly c.trigger → IsEarly d.trigger
+each_early : (a b c d : Channel) → IsEarly a.trigger → IsEarly b.trigger → IsEarly c.trigger → IsEarly d.trigger
     → (which : ℕ) → which < 4 → IsEarly (channel_at (a ∷ b ∷ c ∷ d ∷ []) which).trigger
 each_early a b c d p q r s zero l = p
 each_early a b c d p q r s (suc zero) l = q
@@ -27,6 +28,6 @@ each_early a b c d p q r s (suc (suc zero)) l = r
 each_early a b c d p q r s (suc (suc (suc zero))) l = s
 each_early a b c d p q r s (suc (suc (suc (suc n)))) l = absurd (omega (arith, l))
 
-pub early_made : (proc : Proc) (a b c d : ChannelState) (last : Option LastUnit) → IsEarly a.trigger → IsEarly b.trigger → IsEarly c.trigger
+pub early_made : (proc : Proc) (a b c d : Channel) (last : Option LastUnit) → IsEarly a.trigger → IsEarly b.trigger → IsEarly c.trigger
     → IsEarly d.trigger → IsEarly (last_tick last) → HasEarlyTicks (record { proc = proc; channels = a ∷ b ∷ c ∷ d ∷ []; last = last })
 early_made proc a b c d last p q r s early = record { trigger = each_early a b c d p q r s; last = early }

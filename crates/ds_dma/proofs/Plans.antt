@@ -6,7 +6,8 @@ use Rattle.ds_base.specs.declared.processors.Proc.{Proc}
 use Rattle.ds_base.proofs.Choices.{either_by, not_false, not_true, equal, unequal}
 use Rattle.ds_dma.specs.declared.channels.Unit.{Unit as DmaUnit}
 use Rattle.ds_dma.specs.Controls.{disabled, is_armed_again}
-use Rattle.ds_dma.specs.Channels.{ChannelState, plan_of, unit_of, address_of, source_step, target_step, next_from, next_to, emptied, rest_of, TakesUnit, more_units, pauses, again, ends, after_unit, is_last_unit, is_last_of_burst}
+use Rattle.ds_dma.specs.declared.channels.Channel.{Channel}
+use Rattle.ds_dma.specs.Channels.{plan_of, unit_of, address_of, source_step, target_step, next_from, next_to, emptied, rest_of, TakesUnit, more_units, pauses, again, ends, after_unit, is_last_unit, is_last_of_burst}
 
 -- the address of the unit after this one, from the first and from the second
 shifted : (first step i : ℕ) → address_of first step (i + 1) ≡ address_of (address_of first step 1) step i
@@ -14,7 +15,7 @@ shifted first step i =
     let sum : first + step * (i + 1) ≡ (first + step * 1) + step * i = grind arith in
     ap (λ n. n % 2 ^ 32) sum ∙ sym (mod-add-mod (first + step * 1) (2 ^ 32) (step * i))
 
-unit_shifted : (c : ChannelState) (i : ℕ) → unit_of c (i + 1) ≡ unit_of (rest_of c) i
+unit_shifted : (c : Channel) (i : ℕ) → unit_of c (i + 1) ≡ unit_of (rest_of c) i
 unit_shifted c i =
     ap (λ n. record { from = n; to = address_of c.to (target_step c) (i + 1); width = (unit_of c 0).width }) (shifted c.from (source_step c) i)
     ∙ ap (λ n. record { from = address_of (next_from c) (source_step c) i; to = n; width = (unit_of c 0).width }) (shifted c.to (target_step c) i)
@@ -28,12 +29,12 @@ first_of a zero h = absurd (omega (arith, h))
 first_of a (suc n) h = (let one_less : n ≡ suc n - 1 = omega arith in ap (λ k. a ∷ range_with_len (a + 1) k) one_less)
 
 -- A PLAN'S FIRST UNIT AND ITS REST: the rest is the plan of the running addresses one unit on
-pub plan_splits : (c : ChannelState) → 1 ≤ c.remaining → plan_of c ≡ unit_of c 0 ∷ plan_of (rest_of c)
+pub plan_splits : (c : Channel) → 1 ≤ c.remaining → plan_of c ≡ unit_of c 0 ∷ plan_of (rest_of c)
 unfolding plan_of
 plan_splits c h =
     ap (map (unit_of c)) (first_of 0 c.remaining h) ∙ ap (λ xs. unit_of c 0 ∷ xs) (mapped (unit_of c) (unit_of (rest_of c)) (unit_shifted c) 0 (c.remaining - 1))
 
-plan_ends : (c : ChannelState) → c.remaining ≡ 0 → plan_of c ≡ []
+plan_ends : (c : Channel) → c.remaining ≡ 0 → plan_of c ≡ []
 unfolding plan_of
 plan_ends c h = ap (λ n. map (unit_of c) (range_with_len 0 n)) h
 
@@ -45,13 +46,13 @@ below : (n : ℕ) → n % 2 ^ 32 < 2 ^ 32
 below n = omega arith
 
 -- the rest's first unit lies where the rest stands
-next_is : (c : ChannelState) → (next_from c ≡ (unit_of (rest_of c) 0).from) × (next_to c ≡ (unit_of (rest_of c) 0).to)
+next_is : (c : Channel) → (next_from c ≡ (unit_of (rest_of c) 0).from) × (next_to c ≡ (unit_of (rest_of c) 0).to)
 next_is c = (
   sym (there (next_from c) (source_step c) (below (c.from + source_step c * 1))),
   sym (there (next_to c) (target_step c) (below (c.to + target_step c * 1))),
 )
 
-took_more : (proc : Proc) (which : ℕ) (c : ChannelState) → 2 ≤ c.remaining → TakesUnit proc which c (if is_last_of_burst c then record (rest_of c) { trigger = None } else rest_of c)
+took_more : (proc : Proc) (which : ℕ) (c : Channel) → 2 ≤ c.remaining → TakesUnit proc which c (if is_last_of_burst c then record (rest_of c) { trigger = None } else rest_of c)
 unfolding plan_of
 took_more proc which c h =
     let rest = rest_of c in
@@ -67,13 +68,13 @@ took_more proc which c h =
     (ap (λ n. record c { from = n; to = next_to c; remaining = c.remaining - 1; burst = c.burst - 1 }) is.0
     ∙ ap (λ n. record c { from = (unit_of rest 0).from; to = n; remaining = c.remaining - 1; burst = c.burst - 1 }) is.1))
 
-only_one : (c : ChannelState) → c.remaining ≡ 1 → plan_of c ≡ unit_of c 0 ∷ []
+only_one : (c : Channel) → c.remaining ≡ 1 → plan_of c ≡ unit_of c 0 ∷ []
 only_one c h = plan_splits c (omega (arith, h)) ∙ ap (λ xs. unit_of c 0 ∷ xs) (plan_ends (rest_of c) (omega (arith, h)))
 
 -- a channel that has units left takes the first one
-pub takes : (proc : Proc) (which : ℕ) (c : ChannelState) → 1 ≤ c.remaining → TakesUnit proc which c (after_unit proc which c)
+pub takes : (proc : Proc) (which : ℕ) (c : Channel) → 1 ≤ c.remaining → TakesUnit proc which c (after_unit proc which c)
 takes proc which c h =
-    let P : ChannelState → Type 0 = TakesUnit proc which c in
+    let P : Channel → Type 0 = TakesUnit proc which c in
     either_by P (not (is_last_unit c)) _ _
     (λ e. took_more proc which c (let ne = unequal c.remaining 1 (not_true (is_last_unit c) e) in omega (arith, h, ne)))
     (λ e. (let one = equal c.remaining 1 (not_false (is_last_unit c) e) in
@@ -82,5 +83,5 @@ takes proc which c h =
     (λ f. ends (unit_of c 0) (only_one c one) f (plan_ends (emptied c (disabled c.cnt)) refl) refl)))
 
 -- and that one is where it stands
-pub has_first : (c : ChannelState) → 1 ≤ c.remaining → (rest : List DmaUnit) × (plan_of c ≡ unit_of c 0 ∷ rest)
+pub has_first : (c : Channel) → 1 ≤ c.remaining → (rest : List DmaUnit) × (plan_of c ≡ unit_of c 0 ∷ rest)
 has_first c h = (plan_of (rest_of c), plan_splits c h)

@@ -6,8 +6,9 @@ use Rattle.ds_base.specs.declared.ticks.Tick.{Tick}
 use Rattle.ds_base.specs.declared.processors.Proc.TheVariants.{Nine, Seven}
 use Rattle.ds_base.proofs.Choices.{both, both_true, either_by, equal, if_false, is_equal, is_le, is_unequal, le_of}
 use Rattle.ds_base.proofs.DueNumbers.{due_again, number_again}
-use Rattle.ds_dma.specs.Channels.{ChannelState, IsChannel, is_running}
-use Rattle.ds_dma.specs.Controls.{channel_control_mask, greatest_count, is_enabled}
+use Rattle.ds_dma.specs.declared.channels.Channel.{Channel}
+use Rattle.ds_dma.specs.Channels.{IsChannel, is_running}
+use Rattle.ds_dma.specs.Controls.{channel_control_mask, greatest_count, is_enabled, most_burst}
 use Rattle.ds_dma.specs.Saved.{AreTriggeredBy, ComesNoEarlier, DmasAreSaved, burst_left, channel_format, comes_by, channel_format_by, dma_format, dma_format_by, last_by, last_must, last_waits, must_run, numbered_last, runs_by, units_left, waits_by}
 use Rattle.ds_dma.specs.States.{DmaState, IsDma, WaitsBriefly, any_runs, channel_at, dma_due, last_tick, most_waits}
 use Rattle.ds_dma.specs.declared.channels.LastUnit.{LastUnit}
@@ -40,7 +41,7 @@ last_again tick waits at rule = by_number tick rule where
       let there : numbered_last (suc n) waits ≡ Some (record { tick = record { 0 = suc n }; waits = waits }) = if_false (suc n == 0) _ _ (is_unequal (suc n) 0 (omega arith)) in
       (ap (λ (last : Option LastUnit). tick_or_0 (due_number (last_tick last))) there, ap last_waits there)
 
-waits_of : (proc : Proc) (channels : List ChannelState) (tick at waits : ℕ) → last_by proc channels tick at waits ≡ true → waits_by tick at waits ≡ true
+waits_of : (proc : Proc) (channels : List Channel) (tick at waits : ℕ) → last_by proc channels tick at waits ≡ true → waits_by tick at waits ≡ true
 waits_of proc channels tick at waits rule = (both _ _ rule).1
 
 pub dma_exact : (proc : Proc) (late : Bool) (at : ℕ) → IsExact (dma_format_by proc late) at
@@ -70,7 +71,7 @@ units_hold : (proc : Proc) (which at : ℕ) (enabled : Bool) (units : ℕ) → (
 units_hold proc which at true units some most none = (let one = some refl in grind (arith, one, most))
 units_hold proc which at false units some most none = is_equal units 0 (none refl)
 
-burst_holds : (enabled : Bool) (units at burst : ℕ) → burst ≤ units → burst ≤ 112 → burst_left enabled units at burst ≡ true
+burst_holds : (enabled : Bool) (units at burst : ℕ) → burst ≤ units → burst ≤ most_burst → burst_left enabled units at burst ≡ true
 burst_holds false units at burst within most = refl
 burst_holds true units at burst within most = grind (arith, within, most)
 
@@ -107,7 +108,7 @@ must_holds : (must running : Bool) → (must ≡ true → running ≡ true) → 
 must_holds true running runs = runs refl
 must_holds false running runs = refl
 
-channel_stands : (proc : Proc) (which : ℕ) (must : Bool) (at : ℕ) (c : ChannelState) → at ≤ 2 ^ 56 → IsChannel proc which c
+channel_stands : (proc : Proc) (which : ℕ) (must : Bool) (at : ℕ) (c : Channel) → at ≤ 2 ^ 56 → IsChannel proc which c
     → IfSome (due_number c.trigger) (λ trigger. trigger ≤ at) → (must ≡ true → is_running c ≡ true) → StandsFor (channel_format_by proc which must) at c
 unfolding channel_format_by
 channel_stands proc which must at c early is triggered runs =
@@ -193,7 +194,7 @@ made_again : (s : DmaState) → IsDma s → numbered_last (tick_or_0 (due_number
       last = numbered_last (tick_or_0 (due_number (last_tick s.last))) (last_waits s.last);
     } in all) ≡ s
 made_again s is made =
-    ap (λ (xs : List ChannelState). (let all : DmaState = record s { channels = xs; last = numbered_last (tick_or_0 (due_number (last_tick s.last))) (last_waits s.last) } in all))
+    ap (λ (xs : List Channel). (let all : DmaState = record s { channels = xs; last = numbered_last (tick_or_0 (due_number (last_tick s.last))) (last_waits s.last) } in all))
     (sym (four_are s.channels is.four))
     ∙ ap (λ (last : Option LastUnit). (let all : DmaState = record s { last = last } in all)) made
 

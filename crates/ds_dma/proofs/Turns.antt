@@ -10,7 +10,8 @@ use Rattle.ds_dma.specs.declared.controls.Cause.{Cause}
 use Rattle.ds_dma.specs.declared.controls.DmaPort.{DmaPort}
 use Rattle.ds_dma.specs.declared.controls.DmaPort.TheVariants.{Source, Target, Control}
 use Rattle.ds_dma.specs.Controls.{kept_channel_control, is_enabled, starts_immediately}
-use Rattle.ds_dma.specs.Channels.{ChannelState, is_running, channel_controlled, channel_set, is_triggered, triggered, ready, ready_by}
+use Rattle.ds_dma.specs.declared.channels.Channel.{Channel}
+use Rattle.ds_dma.specs.Channels.{is_running, channel_controlled, channel_set, is_triggered, triggered, ready, ready_by}
 use Rattle.ds_dma.specs.States.{DmaState, IsDma, AreReadyLater, channel_at, dma_triggered, least_running, channel_due, due_with, dma_due, due_channel, dma_finished}
 use Rattle.ds_dma.proofs.Kept.{runs_on}
 use Rattle.ds_dma.proofs.Fours.{set_holds, at_mapped}
@@ -34,16 +35,16 @@ pub finished_later : (s : DmaState) (now : Tick) (waits : ℕ) → AreReadyLater
 finished_later s now waits = λ which l. later_after_unit now waits (channel_at (dma_finished s now waits).channels which).trigger
 
 -- a write leaves a channel ready as it was, or later
-controlled_later : (proc : Proc) (which : ℕ) (c : ChannelState) (control : ℕ) (now : Tick) (last : Option LastUnit) → IsLater now (ready last c)
+controlled_later : (proc : Proc) (which : ℕ) (c : Channel) (control : ℕ) (now : Tick) (last : Option LastUnit) → IsLater now (ready last c)
     → IsLater now (ready last (channel_controlled proc which c control now))
 controlled_later proc which c control now last h =
-    let P : ChannelState → Type 0 = λ x. IsLater now (ready last x) in
+    let P : Channel → Type 0 = λ x. IsLater now (ready last x) in
     either_by P (is_enabled control) _ _
     (λ on. either_by P (is_enabled c.cnt) _ _ (λ was. h)
     (λ was. either_by (λ o. IsLater now (ready_by last o)) (starts_immediately proc control) _ _ (λ e. triggered_later last now) (λ e. tt)))
     (λ off. tt)
 
-set_later : (proc : Proc) (which : ℕ) (port : DmaPort) (value : ℕ) (now : Tick) (c : ChannelState) (last : Option LastUnit) → IsLater now (ready last c)
+set_later : (proc : Proc) (which : ℕ) (port : DmaPort) (value : ℕ) (now : Tick) (c : Channel) (last : Option LastUnit) → IsLater now (ready last c)
     → IsLater now (ready last (channel_set proc which port value now c))
 set_later proc which Source value now c last h = h
 set_later proc which Target value now c last h = h
@@ -56,7 +57,7 @@ written_later s which port value now is l later = λ each m.
     (set_later s.proc which port value now (channel_at s.channels which) s.last (later which l)) each (later each m)
 
 -- and so does an event
-one_triggered : (proc : Proc) (cause : Cause) (now : Tick) (c : ChannelState) (last : Option LastUnit) → IsLater now (ready last c)
+one_triggered : (proc : Proc) (cause : Cause) (now : Tick) (c : Channel) (last : Option LastUnit) → IsLater now (ready last c)
     → IsLater now (ready last (triggered proc cause now c))
 one_triggered proc cause now c last h =
     either_by (λ x. IsLater now (ready last x)) (is_triggered proc cause c) _ _ (λ e. triggered_later last now) (λ e. h)
@@ -84,7 +85,7 @@ least_same false false true false false false f g h n e p q r = never false (h r
 least_same false false false false false true f g h n e p q r = never false (sym (r e)) refl
 least_same false false false false false false f g h n e p q r = e
 
-pub still_runs : (proc : Proc) (cause : Cause) (now : Tick) (c : ChannelState) → is_running c ≡ true → is_running (triggered proc cause now c) ≡ true
+pub still_runs : (proc : Proc) (cause : Cause) (now : Tick) (c : Channel) → is_running c ≡ true → is_running (triggered proc cause now c) ≡ true
 still_runs proc cause now c h = either_by (λ x. is_running x ≡ true) (is_triggered proc cause c) _ _ (λ e. refl) (λ e. h)
 
 -- a channel that is least after an event, and that it doesn't trigger, was least before
@@ -92,7 +93,7 @@ least_before : (s : DmaState) (cause : Cause) (now : Tick) → IsDma s → (each
     → is_running (triggered s.proc cause now (channel_at s.channels each)) ≡ is_running (channel_at s.channels each) → each ≡ least_running s.channels
 least_before s cause now is each e same =
     let f = triggered s.proc cause now in
-    let at : ℕ → ChannelState = channel_at s.channels in
+    let at : ℕ → Channel = channel_at s.channels in
     let P : ℕ → Type 0 = λ k. is_running (f (at k)) ≡ is_running (at k) in
     let moved : (k : ℕ) → k < 4 → is_running (channel_at (map f s.channels) k) ≡ is_running (f (at k)) = λ k l. ap is_running (at_mapped f s.channels k is.four l) in
     let picks : least_running (map f s.channels) ≡ least_of (is_running (f (at 0))) (is_running (f (at 1))) (is_running (f (at 2))) =
@@ -122,7 +123,7 @@ event_schedules s cause now is each m =
     (λ e. inr tt)
 
 -- the least running channel is below 4
-pub least_below : (channels : List ChannelState) → least_running channels < 4
+pub least_below : (channels : List Channel) → least_running channels < 4
 least_below channels =
     let P : ℕ → Type 0 = λ n. n < 4 in
     either_by P (is_running (channel_at channels 0)) _ _ (λ e. omega arith)

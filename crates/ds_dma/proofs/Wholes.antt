@@ -8,7 +8,8 @@ use Rattle.ds_dma.specs.declared.controls.Cause.{Cause}
 use Rattle.ds_dma.specs.declared.controls.Cause.TheVariants.{Geometry}
 use Rattle.ds_dma.specs.declared.controls.DmaPort.{DmaPort}
 use Rattle.ds_dma.specs.Controls.{is_enabled, waits_for}
-use Rattle.ds_dma.specs.Channels.{ChannelState, channel_refusal, channel_set, is_running, is_triggered, after_unit, triggered}
+use Rattle.ds_dma.specs.declared.channels.Channel.{Channel}
+use Rattle.ds_dma.specs.Channels.{channel_refusal, channel_set, is_running, is_triggered, after_unit, triggered}
 use Rattle.ds_dma.specs.States.{DmaState, IsDma, AreReadyLater, any_runs, awaits_geometry, channel_at, channel_written, dma_due, dma_finished, dma_triggered, due_channel, least_running, most_waits, unless}
 use Rattle.ds_dma.proofs.Fours.{are_set, at_mapped, four_are, mapped_is}
 use Rattle.ds_dma.proofs.Kept.{taken_is, triggered_is, written_is}
@@ -83,7 +84,7 @@ awaits_none s now four none =
     ∙ ap (λ xs. record s { channels = xs }) (sym (four_are s.channels four))
 
 -- a channel that an event triggered, or that it didn't trigger, isn't triggered by it again
-triggered_once : (proc : Proc) (cause : Cause) (now : Tick) (c : ChannelState) → is_triggered proc cause (triggered proc cause now c) ≡ false
+triggered_once : (proc : Proc) (cause : Cause) (now : Tick) (c : Channel) → is_triggered proc cause (triggered proc cause now c) ≡ false
 triggered_once proc cause now c =
     either_by (λ x. is_triggered proc cause x ≡ false) (is_triggered proc cause c) _ _
     (λ e. and_false (is_enabled c.cnt && waits_for proc cause c.cnt)) (λ e. e)

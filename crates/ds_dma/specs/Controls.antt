@@ -90,9 +90,8 @@ start_of_cause Nine HBlank = Some 2
 start_of_cause Nine Card = Some 5
 start_of_cause Nine Geometry = Some 7
 start_of_cause Seven VBlank = Some 1
-start_of_cause Seven HBlank = None
 start_of_cause Seven Card = Some 2
-start_of_cause Seven Geometry = None
+start_of_cause Seven cause = None
 
 abbrev pub starts_in_mode : Option ℕ → ℕ → Bool
 starts_in_mode None mode = false
@@ -109,11 +108,12 @@ is_armed_again proc control = repeats control && not (starts_immediately proc co
 -- How many units a channel that is triggered with so many left moves in one burst: where the geometry FIFO triggers it 112, or what is left where
 -- that is less (GBATEK, "DS 3D Geometry Commands", its limit of 112 words to DMA). Any other event has no bursts, which is 0: the channel runs to its
 -- end.
+abbrev pub most_burst : ℕ
+most_burst = 112
+
 abbrev pub burst_of : Cause → ℕ → ℕ
-burst_of VBlank left = 0
-burst_of HBlank left = 0
-burst_of Card left = 0
-burst_of Geometry left = min 112 left
+burst_of Geometry left = min most_burst left
+burst_of cause left = 0
 
 -- the starts that are left out: 3 (start of display), 4 (main memory display) and 6 (GBA slot) on ARM9; 3 (wireless or GBA slot) on ARM7 (our
 -- choice; the names are GBATEK's, "DS DMA Transfers")

@@ -1,5 +1,4 @@
 pub mod Channels
-pub mod ChannelsKept
 pub mod Controls
 pub mod States
 pub mod Relations

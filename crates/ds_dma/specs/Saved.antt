@@ -2,8 +2,9 @@ use Rattle.std.specs.Prelude.{ℕ, ◌<◌, ◌≡◌, ◌≤◌, ◌+◌, ◌^�
 use Rattle.ds_base.specs.Schedules.{due_number, numbered_due}
 use Rattle.ds_base.specs.declared.processors.Proc.{Proc}
 use Rattle.ds_base.specs.declared.processors.Proc.TheVariants.{Nine, Seven}
-use Rattle.ds_dma.specs.Channels.{ChannelState, is_running}
-use Rattle.ds_dma.specs.Controls.{channel_control_mask, greatest_count, is_enabled}
+use Rattle.ds_dma.specs.declared.channels.Channel.{Channel}
+use Rattle.ds_dma.specs.Channels.{is_running}
+use Rattle.ds_dma.specs.Controls.{channel_control_mask, greatest_count, is_enabled, most_burst}
 use Rattle.ds_dma.specs.States.{DmaState, IsDma, any_runs, channel_at, dma_due, last_tick, most_waits}
 use Rattle.ds_dma.specs.declared.channels.LastUnit.{LastUnit}
 use Rattle.ds_dma.specs.declared.dma.DmaDue.{DmaDue}
@@ -16,9 +17,9 @@ use Rattle.ds_state.specs.FormatLaws.{OneSpelling, RoundTrips}
 abbrev pub units_left : Proc → ℕ → Bool → ℕ → ℕ → Bool
 units_left proc which enabled at units = if enabled then nat_le 1 units && nat_le units (greatest_count proc which + 1) else units == 0
 
--- and in a burst no more than these, and than 112
+-- and in a burst no more than these, and than one may have
 abbrev pub burst_left : Bool → ℕ → ℕ → ℕ → Bool
-burst_left enabled units at burst = not enabled || (nat_le burst units && nat_le burst 112)
+burst_left enabled units at burst = not enabled || (nat_le burst units && nat_le burst most_burst)
 
 -- only an enabled channel runs, and one that doesn't run has no burst
 abbrev pub runs_by : Bool → ℕ → ℕ → Bool → Bool
@@ -28,7 +29,7 @@ abbrev pub must_run : Bool → Bool → Bool
 must_run must running = if must then running else true
 
 -- a channel, by whether it must run, which what stands before it tells
-unfoldable pub channel_format_by : Proc → ℕ → Bool → Format ChannelState ChannelState
+unfoldable pub channel_format_by : Proc → ℕ → Bool → Format Channel Channel
 channel_format_by proc which must = do
   sad ← one_field (number_code 4) (λ c. c.sad) (keeps_mask 0x0FFFFFFF)
   dad ← one_field (number_code 4) (λ c. c.dad) (keeps_mask 0x0FFFFFFF)
@@ -37,7 +38,7 @@ channel_format_by proc which must = do
   to ← one_field (number_code 4) (λ c. c.to) (used_where (is_enabled cnt))
   remaining ← one_field (number_code 4) (λ c. c.remaining) (units_left proc which (is_enabled cnt))
   burst ← one_field (number_code 4) (λ c. c.burst) (burst_left (is_enabled cnt) remaining)
-  running ← one_field flag_code is_running (λ at running. must_run must running && runs_by (is_enabled cnt) burst at running)
+  running ← one_field flag_code is_running (λ at running. (if must then running else true) && runs_by (is_enabled cnt) burst at running)
   trigger ← one_field (number_code 8) (λ c. tick_or_0 (due_number c.trigger)) (earlier_tick running)
   done (record {
     sad = sad;
@@ -50,7 +51,7 @@ channel_format_by proc which must = do
     burst = burst;
   })
 
-abbrev pub channel_format : Proc → ℕ → Format ChannelState ChannelState
+abbrev pub channel_format : Proc → ℕ → Format Channel Channel
 channel_format proc which = channel_format_by proc which false
 
 -- the waits of the last unit, 0 where there was none
@@ -71,21 +72,21 @@ comes_by Seven at (Some due) = nat_le at due.tick.0
 abbrev pub numbered_last : ℕ → ℕ → Option LastUnit
 numbered_last tick waits = if tick == 0 then None else Some (record { tick = record { 0 = tick }; waits = waits })
 
-abbrev pub last_by : Proc → List ChannelState → ℕ → ℕ → ℕ → Bool
+abbrev pub last_by : Proc → List Channel → ℕ → ℕ → ℕ → Bool
 last_by proc channels tick at waits =
     comes_by proc at (dma_due (record { proc = proc; channels = channels; last = numbered_last tick waits })) && waits_by tick at waits
 
 -- of four of which one must run it is the last where no other does
-abbrev pub last_must : Bool → ChannelState → ChannelState → ChannelState → Bool
+abbrev pub last_must : Bool → Channel → Channel → Channel → Bool
 last_must late zero one two = late && not (is_running zero || is_running one || is_running two)
 
 -- The four channels of a processor, by whether it is late: its own next step is due before the tick of the state, as only a channel that runs can
 -- have it. This is told where the last channel says whether it runs.
 unfoldable pub dma_format_by : Proc → Bool → Format DmaState DmaState
 dma_format_by proc late = do
-  zero ← its (channel_format proc 0) (λ s. channel_at s.channels 0)
-  one ← its (channel_format proc 1) (λ s. channel_at s.channels 1)
-  two ← its (channel_format proc 2) (λ s. channel_at s.channels 2)
+  zero ← its (channel_format_by proc 0 false) (λ s. channel_at s.channels 0)
+  one ← its (channel_format_by proc 1 false) (λ s. channel_at s.channels 1)
+  two ← its (channel_format_by proc 2 false) (λ s. channel_at s.channels 2)
   three ← its (channel_format_by proc 3 (last_must late zero one two)) (λ s. channel_at s.channels 3)
   tick ← one_field (number_code 8) (λ s. tick_or_0 (due_number (last_tick s.last))) (earlier_tick true)
   waits ← one_field (number_code 4) (λ s. last_waits s.last) (last_by proc (zero ∷ one ∷ two ∷ three ∷ []) tick)

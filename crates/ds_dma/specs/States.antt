@@ -8,16 +8,17 @@ use Rattle.ds_dma.specs.declared.controls.Cause.{Cause}
 use Rattle.ds_dma.specs.declared.controls.Cause.TheVariants.{Geometry}
 use Rattle.ds_dma.specs.declared.controls.DmaPort.{DmaPort}
 use Rattle.ds_dma.specs.declared.dma.DmaDue.{DmaDue}
-use Rattle.ds_dma.specs.Channels.{ChannelState, IsChannel, channel_at_boot, is_running, channel_set, channel_refusal, is_triggered, triggered, after_unit, taken_bit, ready}
+use Rattle.ds_dma.specs.declared.channels.Channel.{Channel}
+use Rattle.ds_dma.specs.Channels.{IsChannel, channel_at_boot, is_running, channel_set, channel_refusal, is_triggered, triggered, after_unit, taken_bit, ready}
 
 -- the four channels of a processor, and the tick and the waits of its last unit, if there was one (GBATEK, "DS DMA Transfers"; the last unit is our
 -- choice)
 pub record DmaState : Type 0 where
   pub proc : Proc
-  pub channels : List ChannelState
+  pub channels : List Channel
   pub last : Option LastUnit
 
-abbrev pub channel_at : List ChannelState → ℕ → ChannelState
+abbrev pub channel_at : List Channel → ℕ → Channel
 channel_at channels which = slice_index_or channels which channel_at_boot
 
 -- a unit's two waits are at most 16 ticks together (our choice: a wait is at most 8 ticks)
@@ -71,20 +72,20 @@ awaits_geometry s =
     || is_triggered s.proc Geometry (channel_at s.channels 2) || is_triggered s.proc Geometry (channel_at s.channels 3)
 
 -- a channel runs, and then the processor isn't due
-abbrev pub any_runs : List ChannelState → Bool
+abbrev pub any_runs : List Channel → Bool
 any_runs channels =
     is_running (channel_at channels 0) || is_running (channel_at channels 1)
     || is_running (channel_at channels 2) || is_running (channel_at channels 3)
 
 -- the running channel with the least number (our choice, by GBATEK, "GBA DMA Transfers": channel 0 has the highest priority); 3 where none runs
-abbrev pub least_running : List ChannelState → ℕ
+abbrev pub least_running : List Channel → ℕ
 least_running channels =
     if is_running (channel_at channels 0) then 0
     else (if is_running (channel_at channels 1) then 1
     else (if is_running (channel_at channels 2) then 2 else 3))
 
 -- what that is, of a channel that runs
-pub record IsLeastRunning (channels : List ChannelState) (which : ℕ) : Type 0 where
+pub record IsLeastRunning (channels : List Channel) (which : ℕ) : Type 0 where
   pub below : which < 4
   pub there : is_running (channel_at channels which) ≡ true
   pub least : (lower : ℕ) → lower < which → is_running (channel_at channels lower) ≡ false
@@ -106,7 +107,7 @@ abbrev pub AreReadyLater : Tick → DmaState → Type 0
 AreReadyLater now s = (which : ℕ) → which < 4 → IsLater now (ready s.last (channel_at s.channels which))
 
 -- the channel that is due
-abbrev pub due_channel : DmaState → ChannelState
+abbrev pub due_channel : DmaState → Channel
 due_channel s = channel_at s.channels (least_running s.channels)
 
 -- its first unit is moved at a tick, with so many ticks of waits

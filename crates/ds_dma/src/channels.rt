@@ -4,7 +4,6 @@ ghost use Rattle.std.specs.Prelude.{◌≡◌, ◌≤◌, ◌+◌, ◌<◌, ◌^
 ghost use Rattle.ds_base.specs.Schedules.{IsEarly};
 ghost use Rattle.ds_base.specs.declared.ticks.Tick.{Tick};
 ghost use Rattle.ds_dma.specs.Channels.{is_running, channel_controlled, latched, emptied, channel_word, channel_set, channel_refusal, is_triggered, triggered, after_unit, taken_bit, is_last_unit, armed_again, unit_of, ready};
-ghost use Rattle.ds_dma.specs.ChannelsKept.{channel_seen};
 ghost use Rattle.ds_dma.specs.Controls.{units_counted, disabled};
 ghost use Rattle.ds_dma.specs.States.{WaitsBriefly, last_tick};
 
@@ -52,14 +51,14 @@ pub struct Channel {
 
 /// Whether it runs.
 pub fn runs(channel: Channel) -> bool
-    ensures { result ≡ is_running (channel_seen channel) }
+    ensures { result ≡ is_running channel }
 {
     channel.trigger.is_some()
 }
 
 /// A channel that stands for no units, with this control.
 fn without_units(channel: Channel, control: u32) -> Channel
-    ensures { channel_seen result ≡ emptied (channel_seen channel) control }
+    ensures { result ≡ emptied channel control }
 {
     Channel {
         cnt: control,
@@ -74,7 +73,7 @@ fn without_units(channel: Channel, control: u32) -> Channel
 
 /// A channel that is enabled.
 fn with_units(proc: Proc, which: u8, channel: Channel, control: u32, now: Tick) -> Channel
-    ensures { channel_seen result ≡ latched proc which (channel_seen channel) control now }
+    ensures { result ≡ latched proc which channel control now }
 {
     let starts_immediately = controls::starts_immediately(proc, control);
     Channel {
@@ -90,7 +89,7 @@ fn with_units(proc: Proc, which: u8, channel: Channel, control: u32, now: Tick) 
 
 /// A channel after a write of its control, of which these bits are kept.
 pub fn with_control(proc: Proc, which: u8, channel: Channel, control: u32, now: Tick) -> Channel
-    ensures { channel_seen result ≡ channel_controlled proc which (channel_seen channel) control now }
+    ensures { result ≡ channel_controlled proc which channel control now }
 {
     if !controls::enabled(control) {
         return without_units(channel, control);
@@ -106,7 +105,7 @@ pub fn with_control(proc: Proc, which: u8, channel: Channel, control: u32, now: 
 
 /// What a port of a channel keeps.
 pub fn word(channel: Channel, port: DmaPort) -> u32
-    ensures { result ≡ channel_word port (channel_seen channel) }
+    ensures { result ≡ channel_word port channel }
 {
     match port {
         DmaPort::Source => channel.sad,
@@ -117,7 +116,7 @@ pub fn word(channel: Channel, port: DmaPort) -> u32
 
 /// Why a write of a channel's port is refused, if it is.
 pub fn refused(proc: Proc, which: u8, channel: Channel, port: DmaPort, value: u32) -> Option<Stop>
-    ensures { result ≡ channel_refusal proc which port value (channel_seen channel) }
+    ensures { result ≡ channel_refusal proc which port value channel }
 {
     match port {
         DmaPort::Source | DmaPort::Target => None,
@@ -137,7 +136,7 @@ pub fn written(
     value: u32,
     now: Tick,
 ) -> Channel
-    ensures { channel_seen result ≡ channel_set proc which port value now (channel_seen channel) }
+    ensures { result ≡ channel_set proc which port value now channel }
 {
     match port {
         DmaPort::Source => Channel {
@@ -157,7 +156,7 @@ pub fn written(
 
 /// Whether an event triggers it: it is enabled with that start, and doesn't run.
 pub fn awaits(proc: Proc, cause: Cause, channel: Channel) -> bool
-    ensures { result ≡ is_triggered proc cause (channel_seen channel) }
+    ensures { result ≡ is_triggered proc cause channel }
 {
     let waits = controls::enabled(channel.cnt) && controls::waits(proc, cause, channel.cnt);
     waits && !runs(channel)
@@ -165,7 +164,7 @@ pub fn awaits(proc: Proc, cause: Cause, channel: Channel) -> bool
 
 /// A channel after an event.
 pub fn after(proc: Proc, cause: Cause, now: Tick, channel: Channel) -> Channel
-    ensures { channel_seen result ≡ triggered proc cause now (channel_seen channel) }
+    ensures { result ≡ triggered proc cause now channel }
 {
     if awaits(proc, cause, channel) {
         return Channel {
@@ -181,7 +180,7 @@ pub fn after(proc: Proc, cause: Cause, now: Tick, channel: Channel) -> Channel
 pub fn first(channel: Channel) -> Unit
     requires from { channel.from < 2 ^ 32 }
     requires to { channel.to < 2 ^ 32 }
-    ensures { result ≡ unit_of (channel_seen channel) 0 }
+    ensures { result ≡ unit_of channel 0 }
 {
     Unit {
         from: channel.from,
@@ -193,7 +192,7 @@ pub fn first(channel: Channel) -> Unit
 /// A channel after its first unit.
 pub fn without_first(proc: Proc, which: u8, channel: Channel) -> Channel
     requires { 1 ≤ channel.remaining }
-    ensures { channel_seen result ≡ after_unit proc which (channel_seen channel) }
+    ensures { result ≡ after_unit proc which channel }
 {
     let control = channel.cnt;
     let from = channel.from.wrapping_add(controls::source_step(control));
@@ -230,7 +229,7 @@ pub fn without_first(proc: Proc, which: u8, channel: Channel) -> Channel
 
 /// The bit of IF that its first unit raises: that of the channel, where this is its last one and its interrupt is enabled.
 pub fn raised(which: u8, channel: Channel) -> u32
-    ensures { result ≡ taken_bit which (channel_seen channel) }
+    ensures { result ≡ taken_bit which channel }
 {
     if channel.remaining == 1 && controls::raises(channel.cnt) {
         controls::interrupt(which).bit()
@@ -244,7 +243,7 @@ pub fn ready_at(last: Option<LastUnit>, channel: Channel) -> Option<Tick>
     requires last { IsEarly (last_tick last) }
     requires waits { WaitsBriefly last }
     requires trigger { IsEarly channel.trigger }
-    ensures { result ≡ ready last (channel_seen channel) }
+    ensures { result ≡ ready last channel }
 {
     let trigger = channel.trigger?;
     match last {

@@ -7,7 +7,7 @@ ghost use Rattle.ds_dma.specs.Controls.{greatest_count, channel_control_mask, ke
 use ds_base::{Interrupt, LeftKind, Proc, Stop, Width};
 
 /// The units of a burst that the geometry FIFO triggers, where as many are left.
-const BURST: u32 = 112;
+pub const BURST: u32 = 112;
 
 /// A port of a channel (GBATEK, "DS DMA Transfers").
 #[derive(Clone, Copy, PartialEq, Eq)]

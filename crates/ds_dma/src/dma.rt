@@ -4,7 +4,6 @@ ghost use Rattle.std.specs.Prelude.{◌≡◌, ◌<◌, ◌≤◌, ◌∷◌, �
 ghost use Rattle.ds_base.specs.Schedules.{IsEarly, Reschedules};
 ghost use Rattle.ds_base.specs.declared.ticks.Tick.{Tick};
 ghost use Rattle.ds_dma.specs.Channels.{IsChannel, is_running, channel_word, channel_refusal, is_triggered, plan_of, unit_of};
-ghost use Rattle.ds_dma.specs.ChannelsKept.{channel_seen};
 ghost use Rattle.ds_dma.specs.declared.channels.Unit.{Unit as DmaUnit};
 ghost use Rattle.ds_dma.specs.declared.controls.Cause.TheVariants.{Geometry};
 ghost use Rattle.ds_dma.specs.States.{DmaState, IsDma, AreReadyLater, awaits_geometry, channel_at, dma_at_boot, channel_written, dma_triggered, any_runs, least_running, channel_due, dma_due, due_channel, dma_finished, finished_bits, WaitsBriefly, last_tick, most_waits};
@@ -37,27 +36,18 @@ pub struct Dma {
 }
 
 impl Model for Dma {
-    ghost use Rattle.std.specs.Prelude.{map};
-    ghost use Rattle.ds_dma.specs.ChannelsKept.{channel_seen, channel_of};
     ghost use Rattle.ds_dma.specs.States.{DmaState, HasEarlyTicks, IsDma};
-    ghost use Rattle.std.proofs.Common.{◌∙◌};
-    ghost use Rattle.std.proofs.lemmas.Simd.{map-map};
-    ghost use Rattle.std.proofs.lemmas.List.{map-id};
 
     ghost Value = { DmaState };
 
-    ghost view = { λ d. record { proc = d.proc; channels = map channel_seen d.channels; last = d.last } };
+    ghost view = { λ d. record { proc = d.proc; channels = d.channels; last = d.last } };
 
-    ghost inverse = { λ s. record { proc = s.proc; channels = map channel_of s.channels; last = s.last } };
+    ghost inverse = { λ s. record { proc = s.proc; channels = s.channels; last = s.last } };
 
-    ghost inverse_ok = { λ d h i. record {
-      proc = d.proc;
-      channels = (map-map channel_of channel_seen d.channels ∙ map-id d.channels) i;
-      last = d.last;
-    } };
+    ghost inverse_ok = { λ d h i. record { proc = d.proc; channels = d.channels; last = d.last } };
 
-    ghost invariant = { λ d. IsDma (record { proc = d.proc; channels = map channel_seen d.channels; last = d.last })
-        × HasEarlyTicks (record { proc = d.proc; channels = map channel_seen d.channels; last = d.last }) };
+    ghost invariant = { λ d. IsDma (record { proc = d.proc; channels = d.channels; last = d.last })
+        × HasEarlyTicks (record { proc = d.proc; channels = d.channels; last = d.last }) };
 }
 
 impl Dma {
@@ -85,8 +75,8 @@ impl Dma {
     /// A channel as it is kept.
     fn channel(&self, which: u8) -> Channel
         requires { which < 4 }
-        ensures seen { channel_seen result ≡ channel_at self.now.channels which }
-        ensures is { IsChannel self.now.proc which (channel_seen result) }
+        ensures seen { result ≡ channel_at self.now.channels which }
+        ensures is { IsChannel self.now.proc which result }
         ensures early { IsEarly result.trigger }
     {
         self.channels[which as usize]
@@ -95,11 +85,11 @@ impl Dma {
     /// Another channel in its place, and another last unit.
     fn put(&mut self, which: u8, channel: Channel, last: Option<LastUnit>)
         requires which { which < 4 }
-        requires is { IsChannel self.old.proc which (channel_seen channel) }
+        requires is { IsChannel self.old.proc which channel }
         requires trigger { IsEarly channel.trigger }
         requires last { IsEarly (last_tick last) }
         requires waits { WaitsBriefly last }
-        ensures { self.new ≡ record self.old { channels = slice_set self.old.channels which (channel_seen channel); last = last } }
+        ensures { self.new ≡ record self.old { channels = slice_set self.old.channels which channel; last = last } }
     {
         self.channels[which as usize] = channel;
         self.last = last;
@@ -257,7 +247,8 @@ impl Dma {
 
     /// The tick and the waits of the last unit that was moved, if one was.
     pub fn last_unit(&self) -> Option<LastUnit>
-        ensures { result ≡ self.now.last }
+        ensures value { result ≡ self.now.last }
+        ensures early { IsEarly (last_tick result) }
     {
         self.last
     }

@@ -8,10 +8,10 @@ use Rattle.ds_machine.proofs.Words.{DmaDue, held_due, IoState, channel_comes_bef
 use Rattle.ds_machine.proofs.Words.{actor_of, IsOver, kept_twice, soon, word_format, StandsFor, IrqState, IsIrq, events, irq_levelled, level}
 use Rattle.ds_machine.proofs.Words.{shares_bit, timer_at, timer_due, gx_level, is_half_empty, is_stalled, waiting_entries, holds_by, scans_follow}
 use Rattle.ds_machine.proofs.Words.{ScanState, scan_before, scan_due, scan_due_tick, HasMachineBounds, due_by, due_unless, dues_of, Around}
-use Rattle.ds_machine.proofs.Words.{SavedProcessor, asked_of, channels_format, is_late, machine_format, machine_format_by, memories_format}
+use Rattle.ds_machine.proofs.Words.{SavedProcessor, asked_of, channels_format, is_late, machine_format, machine_parts, memories_format}
 use Rattle.ds_machine.proofs.Words.{processor_format, processors_format, released_again, saved_channels, saved_memories, saved_processors}
 use Rattle.ds_machine.proofs.Words.{saved_units, script_from, units_format, IsSound, MachineState, ProcessorState, processor_of, tick_of}
-use Rattle.ds_machine.proofs.Words.{IsWithinTick}
+use Rattle.ds_machine.proofs.Words.{IsWithinTick, around_of}
 use Rattle.std.proofs.lemmas.Nat.{and_le_l, and_le_r}
 use Rattle.std.proofs.lemmas.Nat.Bits.{bit_at-lt, bit_at_above, bit_at_not}
 use Rattle.ds_base.proofs.Choices.{equal_self, is_le, isnt_lt, lt_of}
@@ -27,6 +27,8 @@ use Rattle.ds_dma.proofs.Turns.{least_below}
 use Rattle.ds_ipc.proofs.SavedLaws.{ipc_stands}
 use Rattle.ds_math.proofs.SavedLaws.{divider_stands, root_stands}
 use Rattle.ds_state.proofs.Exact.{round_trips}
+use Rattle.gx_geometry.proofs.Opened.{comes_back}
+use Rattle.ds_machine.proofs.SavedParts.{machine_reads, machine_writes}
 use Rattle.ds_timers.proofs.SavedLaws.{irq_stands, timers_stand}
 use Rattle.ds_timers.specs.Saved.{IsAnchoredAt}
 use Rattle.gx_fifo.proofs.SavedLaws.{gx_stands}
@@ -35,7 +37,8 @@ use Rattle.video2d.proofs.SavedLaws.{video_stands}
 use Rattle.video2d.specs.Saved.{IsSavedVideo}
 use Rattle.vram_banks.proofs.SavedLaws.{banks_stand}
 use Rattle.ds_machine.specs.Back.{MachinesComeBack}
-use Rattle.ds_machine.specs.Saved.{own_due, saved_processor, saved_size}
+use Rattle.ds_machine.specs.Saved.{own_due, saved_size}
+use Rattle.ds_machine.specs.SavedParts.{saved_processor}
 use Rattle.ds_machine.proofs.DueTicks.{due_of_rank}
 
 -- A machine at a tick stands for its bytes.
@@ -493,8 +496,8 @@ module _ (keys : List KeyLine) (at : ℕ) (s : MachineState) (early : at ≤ 2 ^
       ∙ ap (λ (released : ℕ). with_three u.nine.irq released (script_from at keys)) released_so
       ∙ ap (λ (lines : List KeyLine). with_three u.nine.irq u.released lines) (sym script)
 
-  stands : s.keys ≡ script_from at keys → StandsFor (machine_format_by around at) at s
-  unfolding machine_format_by
+  stands : s.keys ≡ script_from at keys → StandsFor (machine_parts around at) at s
+  unfolding machine_parts
   stands script = (
     (
       processors_stand,
@@ -520,4 +523,8 @@ module _ (keys : List KeyLine) (at : ℕ) (s : MachineState) (early : at ≤ 2 ^
 
 pub machines_come_back : MachinesComeBack
 machines_come_back keys at s bounds sound within none early script =
-    round_trips (machine_format s.file keys s.nine.processor.steps s.seven.processor.steps s.events at) at s (stands keys at s early bounds sound within none script)
+    (let nine = s.nine.processor.steps in
+    let seven = s.seven.processor.steps in
+    let parts = machine_parts (around_of s.file keys nine seven s.events) at in
+    comes_back (machine_format s.file keys nine seven s.events at) parts at s (machine_reads s.file keys nine seven s.events at)
+    (machine_writes s.file keys nine seven s.events at [] s) (round_trips parts at s (stands keys at s early bounds sound within none script)))

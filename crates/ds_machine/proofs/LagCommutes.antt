@@ -1,7 +1,7 @@
 use Rattle.ds_machine.proofs.Words.{◌||◌, not, ℕ, ◌≡◌, ◌≢◌, ◌+◌, ◌==◌, Bool, true, false, true≢false, if◌then◌else◌, List, [], ◌∷◌, length, Option}
 use Rattle.ds_machine.proofs.Words.{Some, None, refl, sym, ◌∙◌, ap, subst, or_from, or_parts, and_false, either, Access, Fetch, Read, Write, KeyLine}
 use Rattle.ds_machine.proofs.Words.{LeftOut, Stop, Width, V5, Proc, Nine, Seven, Tick, Instr, Outcome, RegisterState, FetchOutcome, enters, fetched}
-use Rattle.ds_machine.proofs.Words.{Cost, Halted, Left, arm9, move_of, Moved, Cp15State, vectors_of, tcm_of, Tcm, Dtcm, Itcm, Past, ChannelState}
+use Rattle.ds_machine.proofs.Words.{Cost, Halted, Left, arm9, move_of, Moved, Cp15State, vectors_of, tcm_of, Tcm, Dtcm, Itcm, Past, Channel}
 use Rattle.ds_machine.proofs.Words.{is_running, is_enabled, DmaState, awaits_geometry, channel_at, dma_due, card_after_event, card_due, card_starter}
 use Rattle.ds_machine.proofs.Words.{awaits_none, MapState, next_unit, unit_moved, unit_refusal, NineReach, nine_memory, tcm_fetched, tcm_read}
 use Rattle.ds_machine.proofs.Words.{tcm_refusal, tcm_value, tcm_written, place_of, Place, Banks, Cell, Nothing, Port, Rom, io_due, IoState}
@@ -472,7 +472,7 @@ waits_none true false runs h = refl
 waits_none false waits runs h = refl
 
 -- (a channel of ARM7's never waits for it)
-waits_armed : (proc : Proc) (c : ChannelState) → is_armed c.cnt ≡ false → is_triggered proc causes.Geometry c ≡ false
+waits_armed : (proc : Proc) (c : Channel) → is_armed c.cnt ≡ false → is_triggered proc causes.Geometry c ≡ false
 waits_armed Nine c h = waits_none (is_enabled c.cnt) (waits_for Nine causes.Geometry c.cnt) (is_running c) h
 waits_armed Seven c h = waits_none (is_enabled c.cnt) false (is_running c) (and_false (is_enabled c.cnt))
 
@@ -481,7 +481,7 @@ none_awaits dma none =
     let l = or_parts (armed dma 0 || armed dma 1 || armed dma 2) (armed dma 3) none in
     let m = or_parts (armed dma 0 || armed dma 1) (armed dma 2) l.0 in
     let n = or_parts (armed dma 0) (armed dma 1) m.0 in
-    let at : ℕ → ChannelState = λ which. channel_at dma.channels which in
+    let at : ℕ → Channel = λ which. channel_at dma.channels which in
     let t : ℕ → Bool = λ which. is_triggered dma.proc causes.Geometry (at which) in
     let none : (which : ℕ) → armed dma which ≡ false → t which ≡ false = λ which h. waits_armed dma.proc (at which) h in
     none_of (t 0) (t 1) (t 2) (t 3) (none 0 n.0) (none 1 n.1) (none 2 m.1) (none 3 l.1)

@@ -84,6 +84,7 @@ pub mod SavedBounds
 pub mod SavedBytes
 pub mod SavedExact
 pub mod SavedMachine
+pub mod SavedParts
 pub mod SavedReads
 pub mod SavedRunning
 pub mod SavedScripts

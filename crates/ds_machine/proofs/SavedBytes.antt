@@ -1,11 +1,13 @@
-use Rattle.ds_machine.proofs.Words.{ℕ, ◌≡◌, Bool, false, List, Ok, Err, refl, subst, Proc, card_format, channel_format_by, dma_format_by, DmaState}
+use Rattle.ds_machine.proofs.Words.{ℕ, ◌≡◌, Bool, false, List, [], Ok, Err, refl, sym, ◌∙◌, subst, Proc, card_format, channel_format_by, dma_format_by, DmaState}
 use Rattle.ds_machine.proofs.Words.{bytes_written, ◌>>=◌, ReadAnswer, read_format, IrqState, irq_levelled, irq_format_by, gx_format_by, video_format}
-use Rattle.ds_machine.proofs.Words.{Around, around_of, channels_format, machine_format_by, units_format, MachineState}
+use Rattle.ds_machine.proofs.Words.{Around, around_of, machine_format, machine_parts, MachineState}
 use Rattle.ds_state.proofs.Exact.{one_spelling}
 use Rattle.ds_state.specs.Formats.{Format, done, then_field, then_part, list}
 use Rattle.ds_state.specs.Reading.{Left, read_code, read_list, ruled}
 use Rattle.ds_timers.proofs.SavedLaws.{irqs_saved}
+use Rattle.gx_geometry.proofs.Opened.{spelled_once}
 use Rattle.ds_machine.proofs.SavedExact.{machine_exact}
+use Rattle.ds_machine.proofs.SavedParts.{machine_reads, machine_writes}
 use Rattle.ds_machine.specs.Saved.{MachinesAreSaved}
 
 -- The bytes are those of the state alone, and what is read has what was handed in.
@@ -19,8 +21,10 @@ dma_bytes proc other late before s = refl
 pub irq_bytes : (proc : Proc) (before : List ℕ) (i : IrqState) → bytes_written (irq_format_by proc false) before i ≡ bytes_written (irq_format_by proc false) before (irq_levelled i false)
 irq_bytes proc before i = irqs_saved.level proc before i
 
-machine_bytes : (around other : Around) (at later : ℕ) (before : List ℕ) (s : MachineState) → bytes_written (machine_format_by around at) before s ≡ bytes_written (machine_format_by other later) before s
-unfolding machine_format_by units_format channels_format irq_format_by dma_format_by channel_format_by video_format gx_format_by card_format
+machine_bytes : (around other : Around) (at later : ℕ) (before : List ℕ) (s : MachineState)
+    → bytes_written (machine_format around.file around.keys around.nine around.seven around.events at) before s
+    ≡ bytes_written (machine_format other.file other.keys other.nine other.seven other.events later) before s
+unfolding machine_format irq_format_by dma_format_by channel_format_by video_format gx_format_by card_format
 machine_bytes around other at later before s = refl
 
 -- ---- what holds of whatever a format makes
@@ -55,16 +59,18 @@ abbrev HasAround : Around → MachineState → Type 0
 HasAround around s =
     (s.nine.processor.steps ≡ around.nine) × (s.seven.processor.steps ≡ around.seven) × (s.events ≡ around.events) × (s.file ≡ around.file)
 
-around_read : (around : Around) (at : ℕ) (l : Left) → HoldsOf (HasAround around) (read_format (machine_format_by around at) at l)
-unfolding machine_format_by
-around_read around at l = always_read (machine_format_by around at) at (HasAround around) l (λ processors memories units channels video gx card. (refl, refl, refl, refl))
+around_read : (around : Around) (at : ℕ) (l : Left) → HoldsOf (HasAround around) (read_format (machine_parts around at) at l)
+unfolding machine_parts
+around_read around at l = always_read (machine_parts around at) at (HasAround around) l (λ processors memories units channels video gx card. (refl, refl, refl, refl))
 
 pub machines_saved : MachinesAreSaved
 machines_saved = record {
   spelling = λ file keys nine seven events at.
-      one_spelling (machine_format_by (around_of file keys nine seven events) at) at (machine_exact (around_of file keys nine seven events) at);
+      (let around = around_of file keys nine seven events in
+      spelled_once (machine_format file keys nine seven events at) (machine_parts around at) at (machine_reads file keys nine seven events at)
+      (machine_writes file keys nine seven events at []) (one_spelling (machine_parts around at) at (machine_exact around at)));
   same = λ file other_file keys other_keys nine seven events at other_nine other_seven other_events later before s.
       machine_bytes (around_of file keys nine seven events) (around_of other_file other_keys other_nine other_seven other_events) at later before s;
   counts = λ file keys nine seven events at l left s h.
-      subst (HoldsOf (HasAround (around_of file keys nine seven events))) h (around_read (around_of file keys nine seven events) at l);
+      subst (HoldsOf (HasAround (around_of file keys nine seven events))) (sym (machine_reads file keys nine seven events at l) ∙ h) (around_read (around_of file keys nine seven events) at l);
 }

@@ -1,6 +1,6 @@
 use Rattle.ds_machine.proofs.Words.{rules, ℕ, ◌≡◌, Bool, true, false, refl, ◌∙◌, ap, bit_not, w32, registers_format, cp15_format, equal, Arch, V4, V5}
 use Rattle.ds_machine.proofs.Words.{Nine, Seven, and_or_apart, word_format, StandsFor, IrqState, events, irq_levelled, level, irq_format_by, gx_level}
-use Rattle.ds_machine.proofs.Words.{Around, SavedUnits, asked_of, is_late, channels_format, machine_format_by, memories_format, processor_format}
+use Rattle.ds_machine.proofs.Words.{Around, SavedUnits, asked_of, is_late, channels_format, machine_parts, memories_format, processor_format}
 use Rattle.ds_machine.proofs.Words.{processors_format, units_format}
 use Rattle.cp15_tcm.proofs.Kept.{control_again}
 use Rattle.ds_card.proofs.SavedLaws.{card_exact}
@@ -90,8 +90,8 @@ units_events halted at u stands = saved_events at u.irq_of_nine stands.0.2.0
 units_again : (u : SavedUnits) {i : IrqState} → i ≡ u.irq_of_nine → record u { irq_of_nine = i } ≡ u
 units_again u again = ap (λ (j : IrqState). record u { irq_of_nine = j }) again
 
-pub machine_exact : (around : Around) (at : ℕ) → IsExact (machine_format_by around at) at
-unfolding machine_format_by
+pub machine_exact : (around : Around) (at : ℕ) → IsExact (machine_parts around at) at
+unfolding machine_parts
 machine_exact around at = (
   processors_exact at,
   λ processors _. (

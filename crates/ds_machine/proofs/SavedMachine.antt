@@ -1,12 +1,12 @@
 use Rattle.ds_machine.proofs.Words.{ℕ, zero, suc, All, bit_and, bit_or, ◌^◌, ◌≡◌, ◌<◌, ◌≤◌, ◌+◌, ◌*◌, Bool, true, false, true≢false, if◌then◌else◌}
-use Rattle.ds_machine.proofs.Words.{List, [], ◌∷◌, Option, Ok, refl, sym, ap, subst, arith, ◌&&◌, not, HasNineStatuses, RegisterState}
+use Rattle.ds_machine.proofs.Words.{List, [], ◌∷◌, Option, Ok, refl, sym, ◌∙◌, ap, subst, arith, ◌&&◌, not, HasNineStatuses, RegisterState}
 use Rattle.ds_machine.proofs.Words.{registers_format, HasStatuses, IsStatus, Cp15State, cp15_format, both_true, equal, if_true, is_equal, KeyLine}
 use Rattle.ds_machine.proofs.Words.{Arch, V4, V5, Nine, Seven, card_format, dma_format_by, any_runs, awaits_geometry, dma_due, DmaDue, divider_format}
 use Rattle.ds_machine.proofs.Words.{root_format, channel_comes_before, is_settled, release_by, release_of, IsOver, StandsFor, read_format, IrqState}
 use Rattle.ds_machine.proofs.Words.{events, irq_levelled, shares_bit, irq_format_by, timers_format, gx_level, is_half_empty, is_stalled, gx_format_by}
 use Rattle.ds_machine.proofs.Words.{Asked, scans_follow, video_format, ScanState, scan_due, IsRunning, dues_of, keys_due, Around, SavedChannels}
 use Rattle.ds_machine.proofs.Words.{SavedProcessor, SavedProcessors, SavedUnits, asked_of, channels_format, is_late, machine_format}
-use Rattle.ds_machine.proofs.Words.{machine_format_by, memories_format, processor_format, processors_format, released_again, saved_channels}
+use Rattle.ds_machine.proofs.Words.{machine_parts, memories_format, processor_format, processors_format, released_again, saved_channels}
 use Rattle.ds_machine.proofs.Words.{saved_memories, saved_processors, saved_units, script_from, units_format, AreAsleep, HasSoundParts, MachineState}
 use Rattle.ds_machine.proofs.Words.{counts_of, with_file, HasBothStatuses}
 use Rattle.std.specs.Int.Bits.{and_le_r, or_add_and}
@@ -15,6 +15,7 @@ use Rattle.ds_state.proofs.Codes.{AreBytes}
 use Rattle.ds_state.proofs.Exact.{reads_exactly}
 use Rattle.ds_state.specs.Reading.{Left}
 use Rattle.ds_machine.proofs.Running.{starts_running}
+use Rattle.ds_machine.proofs.SavedParts.{machine_reads}
 use Rattle.ds_machine.proofs.SavedExact.{machine_exact, saved_events}
 use Rattle.ds_machine.proofs.SavedRunning.{IsDueFrom, answered, card_from, divider_from, gx_from, gx_run, late_runs, levelled_twice, nine_asleep, nine_channel, over_from, own_from, own_from_nine, root_from, scan_again, script_due, seven_asleep, seven_channel, timers_from}
 
@@ -61,8 +62,8 @@ pub record MachineStands (around : Around) (at : ℕ) (s : MachineState) : Type 
   pub events : s.events ≡ around.events
   pub file : s.file ≡ around.file
 
-pub machine_stands : (around : Around) (at : ℕ) (s : MachineState) → StandsFor (machine_format_by around at) at s → MachineStands around at s
-unfolding machine_format_by
+pub machine_stands : (around : Around) (at : ℕ) (s : MachineState) → StandsFor (machine_parts around at) at s → MachineStands around at s
+unfolding machine_parts
 machine_stands around at s stands = record {
   processors = stands.0.0;
   memories = stands.0.1.0;
@@ -80,10 +81,10 @@ machine_stands around at s stands = record {
   file = sym (ap (λ (m : MachineState). m.file) stands.1);
 }
 
-pub read_stands : (around : Around) (at : ℕ) (l : Left) (s : MachineState) (left : Left) → AreBytes l.bytes → read_format (machine_format_by around at) at l ≡ Ok (s, left)
-    → StandsFor (machine_format_by around at) at s
+pub read_stands : (around : Around) (at : ℕ) (l : Left) (s : MachineState) (left : Left) → AreBytes l.bytes → read_format (machine_parts around at) at l ≡ Ok (s, left)
+    → StandsFor (machine_parts around at) at s
 read_stands around at l s left are h =
-    let was = (reads_exactly (λ (m : MachineState). m) (machine_format_by around at) at (λ (m : MachineState). Unit {0}) l (s, left) (machine_exact around at) are h).0 in
+    let was = (reads_exactly (λ (m : MachineState). m) (machine_parts around at) at (λ (m : MachineState). Unit {0}) l (s, left) (machine_exact around at) are h).0 in
     (was.keeps, was.again)
 
 not_awaiting : (half waits : Bool) → (waits ≡ true → half ≡ false) → not (half && waits) ≡ true
@@ -232,7 +233,7 @@ module _ (around : Around) (at : ℕ) (s : MachineState) (m : MachineStands arou
       let counts : counts_of s ≤ 24 * at = omega (arith, few, nine, seven, events) in
       starts_running at s (record { parts = parts; asleep = asleep; settled = are_settled }) none_earlier_due counts (gx_run asks at s.io.gx m.gx)
 
-pub saved_running : (around : Around) (at : ℕ) (s : MachineState) → StandsFor (machine_format_by around at) at s → HasSoundParts s
+pub saved_running : (around : Around) (at : ℕ) (s : MachineState) → StandsFor (machine_parts around at) at s → HasSoundParts s
     → around.nine + around.seven + around.events ≤ 24 * at → IsRunning at s
 saved_running around at s stands parts few = goes_on around at s (machine_stands around at s stands) parts few
 
@@ -288,7 +289,7 @@ processors_have at p stands =
       processor_has V4 at p.seven stands.0.1.0,
     )
 
-pub saved_statuses : (around : Around) (at : ℕ) (s : MachineState) → StandsFor (machine_format_by around at) at s → HasBothStatuses s
+pub saved_statuses : (around : Around) (at : ℕ) (s : MachineState) → StandsFor (machine_parts around at) at s → HasBothStatuses s
 saved_statuses around at s stands =
     let have = processors_have at (saved_processors s) (machine_stands around at s stands).processors in record { nine = have.0; seven = have.1 }
 
@@ -299,11 +300,11 @@ pub read_running : (file : List ℕ) (keys : List KeyLine) (nine seven events at
     → IsRunning at (with_file file s)
 read_running file keys nine seven events at l s left are h parts few =
     let around : Around = record { file = file; keys = keys; nine = nine; seven = seven; events = events } in
-    saved_running around at (with_file file s) (read_stands around at l (with_file file s) left are h) (record { io = parts.io; keys = parts.keys }) few
+    saved_running around at (with_file file s) (read_stands around at l (with_file file s) left are (sym (machine_reads file keys nine seven events at l) ∙ h)) (record { io = parts.io; keys = parts.keys }) few
 
 pub read_statuses : (file : List ℕ) (keys : List KeyLine) (nine seven events at : ℕ) (l : Left) (s : MachineState) (left : Left) → AreBytes l.bytes
     → read_format (machine_format file keys nine seven events at) at l ≡ Ok (with_file file s, left) → HasBothStatuses s
 read_statuses file keys nine seven events at l s left are h =
     let around : Around = record { file = file; keys = keys; nine = nine; seven = seven; events = events } in
-    let has = saved_statuses around at (with_file file s) (read_stands around at l (with_file file s) left are h) in
+    let has = saved_statuses around at (with_file file s) (read_stands around at l (with_file file s) left are (sym (machine_reads file keys nine seven events at l) ∙ h)) in
     record { nine = has.nine; seven = has.seven }

@@ -1,7 +1,7 @@
 use Rattle.ds_machine.proofs.Words.{ℕ, zero, suc, ◌≡◌, ◌≤◌, ◌==◌, nat_lt, Bool, true, false, true≢false, if◌then◌else◌, List, [], ◌∷◌, Option, Some}
 use Rattle.ds_machine.proofs.Words.{None, bit_and, bit_or, max, refl, sym, ◌∙◌, ap, subst, arith, ◌&&◌, ◌||◌, not, bit_at, bit_not, w32}
 use Rattle.ds_machine.proofs.Words.{AllByRecursion, le-max_left, le-max_right, bit_at-zero, bit_at_and, bit_at_or, same_from_bits, both, both_true}
-use Rattle.ds_machine.proofs.Words.{equal, le_of, not_false, due_number, KeyLine, Seven, Tick, CardState, card_due, card_format, ChannelState}
+use Rattle.ds_machine.proofs.Words.{equal, le_of, not_false, due_number, KeyLine, Seven, Tick, CardState, card_due, card_format, Channel}
 use Rattle.ds_machine.proofs.Words.{is_running, ready, channel_format_by, dma_format_by, DmaState, any_runs, channel_at, channel_due, dma_due}
 use Rattle.ds_machine.proofs.Words.{due_with, least_running, divider_format, root_format, held_due, channel_comes_before, IsOver, kept_twice, soon}
 use Rattle.ds_machine.proofs.Words.{StandsFor, IrqState, events, irq_levelled, level, shares_bit, irq_format_by, timers_format, TimerState, timer_at}
@@ -158,7 +158,7 @@ some_runs false true c d h = refl
 some_runs false false true d h = refl
 some_runs false false false d h = h
 
-channel_runs : (must : Bool) (at : ℕ) (c : ChannelState) → StandsFor (channel_format_by Seven 3 must) at c → must_run must (is_running c) ≡ true
+channel_runs : (must : Bool) (at : ℕ) (c : Channel) → StandsFor (channel_format_by Seven 3 must) at c → must_run must (is_running c) ≡ true
 unfolding channel_format_by
 channel_runs must at c stands = (both _ _ stands.0.2.2.2.2.2.2.2.1).0
 

@@ -26,7 +26,4 @@ some_ticks proc clocks waits some =
 -- a processor goes on later than a tick after it
 pub after_unit : (last : Option LastUnit) (now : Tick) → now.0 < past_unit last now
 after_unit None now = omega arith
-after_unit (Some last) now = by_test (nat_le last.tick.0 now.0) where
-  by_test : (b : Bool) → now.0 < (if b then max (now.0 + 1) (last.tick.0 + last.waits + 1) else now.0 + 1)
-  by_test true = let le = le-max_left (now.0 + 1) (last.tick.0 + last.waits + 1) in omega (arith, le)
-  by_test false = omega arith
+after_unit (Some last) now = let le = le-max_left (now.0 + 1) (last.tick.0 + last.waits + 1) in omega (arith, le)

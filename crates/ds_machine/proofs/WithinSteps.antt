@@ -61,9 +61,7 @@ module _ (limit : ℕ) where
       → past_unit last now ≤ limit + 17
   past_soon None now le brief h = omega (arith, le)
   past_soon (Some last) now le brief h =
-      let late = h.1 in
-      either (λ (n : ℕ). n ≤ limit + 17) (nat_le last.tick.0 now.0) (max (now.0 + 1) (last.tick.0 + last.waits + 1)) (now.0 + 1) (omega (arith, le, brief, late))
-      (omega (arith, le))
+      let late = h.1 in omega (arith, le, brief, late)
 
   unit_soon : (proc : Proc) (s : MachineState) (now : Tick) → now.0 ≤ limit → Stays limit s.io → due_past_unit s proc now ≤ limit + 17
   unit_soon proc s now le h = past_soon (io_of s.io proc).dma.last now le (h.is proc).dma.last (h.within.own proc).dma.last

@@ -95,7 +95,8 @@ pub use Rattle.ds_card.specs.TransferLaws.{CardHappens, CardPasses, and_taken}
 pub use Rattle.ds_card.specs.TransferLaws.CardHappens.{came, was_read, wrote}
 pub use Rattle.ds_card.specs.TransferLaws.CardPasses.{passed_none, passed_one}
 pub use Rattle.ds_dma.proofs.Wholes.{awaits_none}
-pub use Rattle.ds_dma.specs.Channels.{ChannelState, is_running, ready, ready_by}
+pub use Rattle.ds_dma.specs.declared.channels.Channel.{Channel}
+pub use Rattle.ds_dma.specs.Channels.{is_running, ready, ready_by}
 pub use Rattle.ds_dma.specs.Controls.{is_enabled}
 unfoldable pub use Rattle.ds_dma.specs.Saved.{channel_format_by, dma_format_by}
 pub use Rattle.ds_dma.specs.States.{DmaState, any_runs, awaits_geometry, channel_at, channel_due, dma_due, due_with, last_tick, least_running}
@@ -132,7 +133,8 @@ pub use Rattle.ds_ports.proofs.WithinPorts.{Stays}
 pub use Rattle.ds_ports.specs.Acting.{acting_io_dues, any_armed, is_quiet}
 pub use Rattle.ds_ports.specs.Dues.{held_due, io_due}
 pub use Rattle.ds_ports.specs.HappeningLaws.{Goes, HasOnlyLaterEvents, IsIo, IsProcessorIo, IsTold, IsUnchanged, ReschedulesEach, ipc_bits}
-pub use Rattle.ds_ports.specs.Io.{IoState, both_raised, card_done_at, channel_comes_before, channel_moved, channels_triggered, io_at_boot, io_event}
+pub use Rattle.ds_ports.specs.declared.units.IoParts.{IoParts as IoState}
+pub use Rattle.ds_ports.specs.Io.{both_raised, card_done_at, channel_comes_before, channel_moved, channels_triggered, io_at_boot, io_event}
 pub use Rattle.ds_ports.specs.Io.{io_of, is_held, is_settled, keys_pressed, level_told, release_by, release_kept, release_of, settled}
 pub use Rattle.ds_ports.specs.Io.{shown_to_others, stall_ends, starter_told, tick_after, video_done, with_gx}
 pub use Rattle.ds_ports.specs.Ports.{ignores, slot_joined, slot_read, unless_stopped, whole_if, whole_in}
@@ -164,7 +166,8 @@ pub use Rattle.ds_state.specs.Formats.{bytes_written, soon, word_format}
 pub use Rattle.ds_state.specs.Reading.{ReadAnswer, read_format, ◌>>=◌}
 pub use Rattle.ds_timers.specs.Irqs.{IrqState, IsIrq, events, irq_levelled, level, line_is_up, shares_bit}
 unfoldable pub use Rattle.ds_timers.specs.Saved.{irq_format_by, timers_format}
-pub use Rattle.ds_timers.specs.Timing.{TimerState, timer_at, timer_due}
+pub use Rattle.ds_timers.specs.declared.timers.Timer.{Timer as TimerState}
+pub use Rattle.ds_timers.specs.Timing.{timer_at, timer_due}
 pub use Rattle.gx_fifo.specs.Entries.{complete_command}
 pub use Rattle.gx_fifo.specs.GxStates.{AreWaiting, GxState, done_by, gx_finished, gx_level, is_half_empty, is_stalled, waiting_entries}
 pub use Rattle.gx_fifo.specs.Saved.{holds_by}
@@ -211,10 +214,14 @@ pub use Rattle.ds_machine.specs.Reference.{Shown, after_event, after_geometry, a
 pub use Rattle.ds_machine.specs.Reference.{keys_due, processor_due, reference, reference_step, shown_at, step_by, swapped_if, video_step}
 unfoldable pub use Rattle.ds_machine.specs.Reference.{dues_of}
 pub use Rattle.ds_machine.specs.Rooms.{FindsRoom, accesses_of, step_accesses}
-pub use Rattle.ds_machine.specs.Saved.{Around, SavedChannels, SavedProcessor, SavedProcessors, SavedUnits, around_of, asked_of, is_late}
-pub use Rattle.ds_machine.specs.Saved.{machine_format, released_again, saved_channels, saved_memories, saved_processors, saved_units, script_from}
-unfoldable pub use Rattle.ds_machine.specs.Saved.{channels_format, machine_format_by, memories_format, processor_format, processors_format}
-unfoldable pub use Rattle.ds_machine.specs.Saved.{units_format}
+pub use Rattle.ds_machine.specs.Saved.{released_again, script_from}
+pub use Rattle.ds_machine.specs.SavedParts.{SavedProcessor, asked_of, is_late}
+pub use Rattle.ds_machine.specs.SavedParts.{Around, SavedChannels, SavedProcessors, SavedUnits, around_of}
+pub use Rattle.ds_machine.specs.SavedParts.{saved_channels, saved_memories, saved_processors, saved_units}
+unfoldable pub use Rattle.ds_machine.specs.Saved.{machine_format}
+unfoldable pub use Rattle.ds_machine.specs.SavedParts.{processor_format}
+unfoldable pub use Rattle.ds_machine.specs.SavedParts.{channels_format, machine_parts, memories_format, processors_format}
+unfoldable pub use Rattle.ds_machine.specs.SavedParts.{units_format}
 pub use Rattle.ds_machine.specs.Sides.{data_accesses, data_waits, next_fetch, nine_executed}
 unfoldable pub use Rattle.ds_machine.specs.Sides.{taken, waits_of_step}
 pub use Rattle.ds_machine.specs.Sound.{AreAsleep, HasSoundParts, IsSound}

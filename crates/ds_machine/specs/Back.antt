@@ -11,7 +11,8 @@ use Rattle.ds_card.specs.Saved.{KeepsAuxspicnt}
 use Rattle.ds_ipc.specs.Ipcs.{AreSides}
 use Rattle.ds_math.specs.Dividers.{IsDivider}
 use Rattle.ds_math.specs.Roots.{IsRootUnit}
-use Rattle.ds_ports.specs.Io.{IoState, io_of}
+use Rattle.ds_ports.specs.declared.units.IoParts.{IoParts as IoState}
+use Rattle.ds_ports.specs.Io.{io_of}
 use Rattle.ds_runs.specs.Runs.{IsOver}
 use Rattle.ds_state.specs.FormatLaws.{RoundTrips}
 use Rattle.ds_timers.specs.Irqs.{IsIrq}

@@ -13,7 +13,7 @@ use Rattle.ds_map.specs.Views.{NineReach, nine_memory}
 use Rattle.ds_places.specs.AddressTables.{place_of}
 use Rattle.ds_places.specs.declared.kinds.Place.{Place}
 use Rattle.ds_places.specs.declared.kinds.Place.TheVariants.{Port}
-use Rattle.ds_ports.specs.Io.{IoState}
+use Rattle.ds_ports.specs.declared.units.IoParts.{IoParts as IoState}
 use Rattle.ds_runs.specs.Actors.{actor_of}
 use Rattle.ds_runs.specs.Runs.{Ending, IsLeast, Makes, Runs, Stopped, Stops, due_at}
 use Rattle.ds_runs.specs.declared.actors.Actor as actor

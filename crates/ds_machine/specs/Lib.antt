@@ -38,5 +38,6 @@ pub mod WithinLaws
 pub mod Back
 pub mod CardSteps
 pub mod Saved
+pub mod SavedParts
 pub mod Taken
 pub mod Looks

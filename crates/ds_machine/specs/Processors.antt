@@ -2,7 +2,7 @@ use Rattle.std.specs.Prelude.{Option, Some, None}
 use Rattle.arm_core.specs.declared.outcomes.Stepped as arm
 use Rattle.arm_core.specs.declared.outcomes.Stepped.TheVariants.{Cost, Halted, Left}
 use Rattle.ds_base.specs.declared.left_out.Stop.{Stop}
-use Rattle.ds_machine.specs.Saved.{SavedProcessor}
+use Rattle.ds_machine.specs.SavedParts.{SavedProcessor}
 use Rattle.ds_machine.specs.States.{ProcessorState}
 use Rattle.ds_machine.specs.declared.processors.Processor.{Processor}
 use Rattle.ds_machine.specs.declared.saved.processors.TakenProcessor.{TakenProcessor}

@@ -6,7 +6,8 @@ use Rattle.ds_base.specs.declared.ticks.Tick.{Tick}
 use Rattle.ds_base.specs.declared.processors.Proc.{Proc}
 use Rattle.ds_base.specs.declared.processors.Proc.TheVariants.{Nine}
 use Rattle.ds_ports.specs.Dues.{io_due}
-use Rattle.ds_ports.specs.Io.{IoState, geometry_swapped, io_event, keys_pressed, stall_ends, tick_after, video_done}
+use Rattle.ds_ports.specs.declared.units.IoParts.{IoParts as IoState}
+use Rattle.ds_ports.specs.Io.{geometry_swapped, io_event, keys_pressed, stall_ends, tick_after, video_done}
 use Rattle.ds_runs.specs.Actors.{actors, actor_of}
 use Rattle.ds_runs.specs.Runs.{TickMachine, MachineStep, Makes, Stops}
 use Rattle.ds_runs.specs.declared.actors.Actor as actor

@@ -19,14 +19,14 @@ use Rattle.ds_ipc.specs.Saved.{ipc_format}
 use Rattle.ds_math.specs.Dividers.{DividerState}
 use Rattle.ds_math.specs.Roots.{RootState}
 use Rattle.ds_math.specs.Saved.{divider_format, root_format}
-use Rattle.ds_ports.specs.Io.{IoState, channel_comes_before}
+use Rattle.ds_ports.specs.declared.units.IoParts.{IoParts as IoState}
+use Rattle.ds_ports.specs.Io.{channel_comes_before}
 use Rattle.ds_ports.specs.ProcessorIo.{ProcessorIoState}
 use Rattle.ds_state.specs.Formats.{Format, number_code, flag_code, array, done, ◌>>=◌, one_field, its, each, any, at_most, keeps_mask, word_format, bytes_written}
 use Rattle.ds_state.specs.FormatLaws.{OneSpelling}
 use Rattle.ds_state.specs.Reading.{Left, read_format}
 use Rattle.ds_timers.specs.Irqs.{IrqState, irq_levelled, level, shares_bit}
 use Rattle.ds_timers.specs.Saved.{irq_format_by, timers_format}
-use Rattle.ds_timers.specs.Timing.{TimerState}
 use Rattle.gx_fifo.specs.GxStates.{GxState, gx_level, is_stalled}
 use Rattle.gx_fifo.specs.Saved.{gx_format_by}
 use Rattle.gx_fifo.specs.declared.gx.saved.Asked.{Asked}
@@ -41,177 +41,29 @@ use Rattle.ds_machine.specs.States.{MachineState, ProcessorState}
 
 -- ---- the processors
 
--- a processor: its registers, whether it is halted, and the tick at which its next step is due
-pub record SavedProcessor : Type 0 where
-  pub registers : RegisterState
-  pub halted : Bool
-  pub due : ℕ
-
--- that tick is 0 while it is halted, and else no later than 2^32 ticks after that of the state
+-- the tick at which its next step is due is 0 while it is halted, and else no later than 2^32 ticks after that of the state
 abbrev pub own_due : Bool → ℕ → ℕ → Bool
 own_due halted at due = if halted then due == 0 else nat_le due (at + 2 ^ 32)
 
-unfoldable pub processor_format : Arch → Format SavedProcessor SavedProcessor
-processor_format arch = do
-  registers ← its (registers_format arch) (λ p. p.registers)
-  halted ← one_field flag_code (λ p. p.halted) any
-  due ← one_field (number_code 8) (λ p. p.due) (own_due halted)
-  done (record { registers = registers; halted = halted; due = due })
-
-abbrev pub saved_processor : ProcessorState → ProcessorIoState → SavedProcessor
-saved_processor p processor_io = record { registers = p.registers; halted = processor_io.halted; due = p.due }
-
--- both of them, and CP15
-pub record SavedProcessors : Type 0 where
-  pub nine : SavedProcessor
-  pub seven : SavedProcessor
-  pub cp15 : Cp15State
-
-abbrev pub saved_processors : MachineState → SavedProcessors
-saved_processors s = record {
-  nine = saved_processor s.nine.processor s.io.nine;
-  seven = saved_processor s.seven.processor s.io.seven;
-  cp15 = s.nine.cp15;
-}
-
-unfoldable pub processors_format : Format SavedProcessors SavedProcessors
-processors_format = do
-  nine ← its (processor_format V5) (λ p. p.nine)
-  seven ← its (processor_format V4) (λ p. p.seven)
-  cp15 ← its cp15_format (λ p. p.cp15)
-  done (record { nine = nine; seven = seven; cp15 = cp15 })
-
 -- where it isn't halted it is due earlier than the tick of the state, which is so only while something else holds it
-abbrev pub is_late : ℕ → SavedProcessor → Bool
-is_late at p = not p.halted && nat_lt p.due at
+abbrev pub late_by : ℕ → Bool → ℕ → Bool
+late_by at halted due = not halted && nat_lt due at
 
 -- ---- the memories
-
-pub record SavedMemories : Type 0 where
-  pub main : List ℕ
-  pub shared : List ℕ
-  pub wram : List ℕ
-  pub itcm : List ℕ
-  pub dtcm : List ℕ
-  pub palette : List ℕ
-  pub vram : Banks
-  pub oam : List ℕ
-
-abbrev pub saved_memories : MachineState → SavedMemories
-saved_memories s = record {
-  main = s.main;
-  shared = s.shared;
-  wram = s.seven.wram;
-  itcm = s.nine.itcm;
-  dtcm = s.nine.dtcm;
-  palette = s.palette;
-  vram = s.io.vram;
-  oam = s.oam;
-}
 
 -- so many bytes; it doesn't unfold by itself, since they are many
 unfoldable pub saved_size : Memory → ℕ
 saved_size memory = memory_size memory
 
-unfoldable pub memories_format : Format SavedMemories SavedMemories
-memories_format = do
-  main ← one_field (array (saved_size Main)) (λ m. m.main) any
-  shared ← one_field (array (saved_size Shared)) (λ m. m.shared) any
-  wram ← one_field (array (saved_size Own7)) (λ m. m.wram) any
-  itcm ← one_field (array (saved_size Itcm)) (λ m. m.itcm) any
-  dtcm ← one_field (array (saved_size Dtcm)) (λ m. m.dtcm) any
-  palette ← one_field (array (saved_size Palette)) (λ m. m.palette) any
-  vram ← its banks_format (λ m. m.vram)
-  oam ← one_field (array (saved_size Oam)) (λ m. m.oam) any
-  done (record { main = main; shared = shared; wram = wram; itcm = itcm; dtcm = dtcm; palette = palette; vram = vram; oam = oam })
-
--- ---- the small units: WRAMCNT, the interrupt words and the timers of both processors, the divider and the square root unit, what passes between
--- the processors, the keys that are pressed, and each KEYCNT
-
-pub record SavedUnits : Type 0 where
-  pub wramcnt : ℕ
-  pub irq_of_nine : IrqState
-  pub irq_of_seven : IrqState
-  pub timers_of_nine : List TimerState
-  pub timers_of_seven : List TimerState
-  pub divider : DividerState
-  pub root : RootState
-  pub ipc : IpcState
-  pub pressed : ℕ
-  pub keycnt_of_nine : ℕ
-  pub keycnt_of_seven : ℕ
-
--- the geometry FIFO's bit of ARM9's IF isn't saved: it tells that FIFO's condition, by which it is made anew
-abbrev pub saved_units : IoState → SavedUnits
-saved_units u = record {
-  wramcnt = u.wramcnt;
-  irq_of_nine = irq_levelled u.nine.irq false;
-  irq_of_seven = u.seven.irq;
-  timers_of_nine = u.nine.timers;
-  timers_of_seven = u.seven.timers;
-  divider = u.divider;
-  root = u.root;
-  ipc = u.ipc;
-  pressed = u.pressed;
-  keycnt_of_nine = u.nine.keycnt;
-  keycnt_of_seven = u.seven.keycnt;
-}
-
--- by whether ARM7 is halted: then no bit may stand in its IE and IF both
-unfoldable pub units_format : Bool → Format SavedUnits SavedUnits
-units_format halted = do
-  wramcnt ← one_field (number_code 1) (λ u. u.wramcnt) (at_most 3)
-  irq_of_nine ← its (irq_format_by Nine false) (λ u. u.irq_of_nine)
-  irq_of_seven ← its (irq_format_by Seven halted) (λ u. u.irq_of_seven)
-  timers_of_nine ← its timers_format (λ u. u.timers_of_nine)
-  timers_of_seven ← its timers_format (λ u. u.timers_of_seven)
-  divider ← its divider_format (λ u. u.divider)
-  root ← its root_format (λ u. u.root)
-  ipc ← its ipc_format (λ u. u.ipc)
-  pressed ← one_field (number_code 2) (λ u. u.pressed) (at_most 0xFFF)
-  keycnt_of_nine ← one_field (number_code 2) (λ u. u.keycnt_of_nine) (keeps_mask 0xC3FF)
-  keycnt_of_seven ← one_field (number_code 2) (λ u. u.keycnt_of_seven) (keeps_mask 0xC3FF)
-  done (record {
-    wramcnt = wramcnt;
-    irq_of_nine = irq_of_nine;
-    irq_of_seven = irq_of_seven;
-    timers_of_nine = timers_of_nine;
-    timers_of_seven = timers_of_seven;
-    divider = divider;
-    root = root;
-    ipc = ipc;
-    pressed = pressed;
-    keycnt_of_nine = keycnt_of_nine;
-    keycnt_of_seven = keycnt_of_seven;
-  })
-
--- ---- the DMA channels of both processors, and the four words of DMA0FILL to DMA3FILL
-
-pub record SavedChannels : Type 0 where
-  pub nine : DmaState
-  pub seven : DmaState
-  pub fill : List ℕ
-
-abbrev pub saved_channels : IoState → SavedChannels
-saved_channels u = record { nine = u.nine.dma; seven = u.seven.dma; fill = u.fill }
-
--- by whether ARM7 is late: then one of its channels runs
-unfoldable pub channels_format : Bool → Format SavedChannels SavedChannels
-channels_format late = do
-  nine ← its (dma_format_by Nine false) (λ c. c.nine)
-  seven ← its (dma_format_by Seven late) (λ c. c.seven)
-  fill ← each 4 word_format (λ c. c.fill)
-  done (record { nine = nine; seven = seven; fill = fill })
-
 -- ---- the whole
 
 -- What the rest of the machine asks of the geometry FIFO: while ARM9 is halted no bit may stand in its IE and IF both, the FIFO's own among them;
 -- where it is late, and no channel of it runs, a stall holds it; and no channel of it waits while the FIFO is half empty.
-abbrev pub asked_of : ℕ → SavedProcessor → IrqState → DmaState → Asked
-asked_of at nine irq dma = record {
-  wakes = nine.halted && shares_bit irq;
-  hears = nine.halted && not (bit_and irq.ie level == 0);
-  late = is_late at nine && not (any_runs dma.channels);
+abbrev pub asks_by : ℕ → Bool → ℕ → IrqState → DmaState → Asked
+asks_by at halted due irq dma = record {
+  wakes = halted && shares_bit irq;
+  hears = halted && not (bit_and irq.ie level == 0);
+  late = late_by at halted due && not (any_runs dma.channels);
   waits = awaits_geometry dma;
 }
 
@@ -228,81 +80,82 @@ abbrev pub script_from : ℕ → List KeyLine → List KeyLine
 script_from at [] = []
 script_from at (line ∷ lines) = if nat_lt line.tick.0 at then script_from at lines else line ∷ lines
 
--- a processor, with so many steps
-abbrev pub made_processor : SavedProcessor → ℕ → ProcessorState
-made_processor p steps = record { registers = p.registers; due = p.due; steps = steps }
-
--- what each processor has of its own behind the ports
-abbrev pub made_nine : SavedProcessor → SavedUnits → SavedChannels → GxState → ProcessorIoState
-made_nine p u c gx = record {
-  irq = irq_levelled u.irq_of_nine (gx_level gx);
-  timers = u.timers_of_nine;
-  keycnt = u.keycnt_of_nine;
-  halted = p.halted;
-  dma = c.nine;
-}
-
-abbrev pub made_seven : SavedProcessor → SavedUnits → SavedChannels → ProcessorIoState
-made_seven p u c = record { irq = u.irq_of_seven; timers = u.timers_of_seven; keycnt = u.keycnt_of_seven; halted = p.halted; dma = c.seven }
-
--- the units behind the ports
-abbrev pub made_io : ℕ → SavedProcessors → Banks → SavedUnits → SavedChannels → VideoState → GxState → CardState → IoState
-made_io at p vram u c video gx card = record {
-  video = video;
-  vram = vram;
-  wramcnt = u.wramcnt;
-  ipc = u.ipc;
-  pressed = u.pressed;
-  fill = c.fill;
-  card = card;
-  divider = u.divider;
-  root = u.root;
-  gx = gx;
-  released = released_again at gx c.nine;
-  nine = made_nine p.nine u c gx;
-  seven = made_seven p.seven u c;
-}
-
--- what isn't saved with the machine: the cartridge's file, the whole key script, and the counts of steps of ARM9, of ARM7 and of all others
-pub record Around : Type 0 where
-  pub file : List ℕ
-  pub keys : List KeyLine
-  pub nine : ℕ
-  pub seven : ℕ
-  pub events : ℕ
-
-abbrev pub around_of : List ℕ → List KeyLine → ℕ → ℕ → ℕ → Around
-around_of file keys nine seven events = record { file = file; keys = keys; nine = nine; seven = seven; events = events }
-
-abbrev pub made_machine : Around → ℕ → SavedProcessors → SavedMemories → IoState → MachineState
-made_machine around at p m io = record {
-  nine = record { processor = made_processor p.nine around.nine; cp15 = p.cp15; itcm = m.itcm; dtcm = m.dtcm };
-  seven = record { processor = made_processor p.seven around.seven; wram = m.wram };
-  main = m.main;
-  shared = m.shared;
-  palette = m.palette;
-  oam = m.oam;
-  io = io;
-  keys = script_from at around.keys;
-  events = around.events;
-  file = around.file;
-}
-
-unfoldable pub machine_format_by : Around → ℕ → Format MachineState MachineState
-machine_format_by around at = do
-  processors ← its processors_format saved_processors
-  memories ← its memories_format saved_memories
-  units ← its (units_format processors.seven.halted) (λ s. saved_units s.io)
-  channels ← its (channels_format (is_late at processors.seven)) (λ s. saved_channels s.io)
+-- The whole: the processors, of each its registers, whether it is halted, and the tick at which its next step is due, and CP15; the memories; WRAMCNT, the interrupt words and the timers of both processors, the divider and the square root
+-- unit, what passes between the processors, the keys that are pressed, and each KEYCNT; the DMA channels, and the four words of DMA0FILL to DMA3FILL;
+-- the display; the geometry engine with what waits for it; the card. What isn't saved with it is handed in: the cartridge's file, the whole key script,
+-- and the counts of steps of ARM9, of ARM7 and of all others. The geometry FIFO's bit of ARM9's IF isn't saved either: it tells that FIFO's condition,
+-- by which it is made anew. While ARM7 is halted no bit may stand in its IE and IF both, and where it is late one of its channels runs.
+unfoldable pub machine_format : (file : List ℕ) (keys : List KeyLine) (steps_of_nine steps_of_seven events at : ℕ) → Format MachineState MachineState
+machine_format file keys steps_of_nine steps_of_seven events at = do
+  registers_of_nine ← its (registers_format V5) (λ s. s.nine.processor.registers)
+  halted_of_nine ← one_field flag_code (λ s. s.io.nine.halted) any
+  due_of_nine ← one_field (number_code 8) (λ s. s.nine.processor.due) (own_due halted_of_nine)
+  registers_of_seven ← its (registers_format V4) (λ s. s.seven.processor.registers)
+  halted_of_seven ← one_field flag_code (λ s. s.io.seven.halted) any
+  due_of_seven ← one_field (number_code 8) (λ s. s.seven.processor.due) (own_due halted_of_seven)
+  cp15 ← its cp15_format (λ s. s.nine.cp15)
+  main ← one_field (array (saved_size Main)) (λ s. s.main) any
+  shared ← one_field (array (saved_size Shared)) (λ s. s.shared) any
+  wram ← one_field (array (saved_size Own7)) (λ s. s.seven.wram) any
+  itcm ← one_field (array (saved_size Itcm)) (λ s. s.nine.itcm) any
+  dtcm ← one_field (array (saved_size Dtcm)) (λ s. s.nine.dtcm) any
+  palette ← one_field (array (saved_size Palette)) (λ s. s.palette) any
+  vram ← its banks_format (λ s. s.io.vram)
+  oam ← one_field (array (saved_size Oam)) (λ s. s.oam) any
+  wramcnt ← one_field (number_code 1) (λ s. s.io.wramcnt) (at_most 3)
+  irq_of_nine ← its (irq_format_by Nine false) (λ s. irq_levelled s.io.nine.irq false)
+  irq_of_seven ← its (irq_format_by Seven halted_of_seven) (λ s. s.io.seven.irq)
+  timers_of_nine ← its timers_format (λ s. s.io.nine.timers)
+  timers_of_seven ← its timers_format (λ s. s.io.seven.timers)
+  divider ← its divider_format (λ s. s.io.divider)
+  root ← its root_format (λ s. s.io.root)
+  ipc ← its ipc_format (λ s. s.io.ipc)
+  pressed ← one_field (number_code 2) (λ s. s.io.pressed) (at_most 0xFFF)
+  keycnt_of_nine ← one_field (number_code 2) (λ s. s.io.nine.keycnt) (keeps_mask 0xC3FF)
+  keycnt_of_seven ← one_field (number_code 2) (λ s. s.io.seven.keycnt) (keeps_mask 0xC3FF)
+  dma_of_nine ← its (dma_format_by Nine false) (λ s. s.io.nine.dma)
+  dma_of_seven ← its (dma_format_by Seven (late_by at halted_of_seven due_of_seven)) (λ s. s.io.seven.dma)
+  fill ← each 4 word_format (λ s. s.io.fill)
   video ← its (video_format at) (λ s. s.io.video)
-  gx ← its (gx_format_by (asked_of at processors.nine units.irq_of_nine channels.nine)) (λ s. s.io.gx)
-  card ← its (card_format around.file) (λ s. s.io.card)
-  done (made_machine around at processors memories (made_io at processors memories.vram units channels video gx card))
-
--- the same with each of what isn't saved with it
-abbrev pub machine_format : (file : List ℕ) (keys : List KeyLine) (nine seven events at : ℕ) → Format MachineState MachineState
-machine_format file keys nine seven events at =
-    machine_format_by (around_of file keys nine seven events) at
+  gx ← its (gx_format_by (asks_by at halted_of_nine due_of_nine irq_of_nine dma_of_nine)) (λ s. s.io.gx)
+  card ← its (card_format file) (λ s. s.io.card)
+  done (record {
+    nine = record {
+      processor = record { registers = registers_of_nine; due = due_of_nine; steps = steps_of_nine };
+      cp15 = cp15;
+      itcm = itcm;
+      dtcm = dtcm;
+    };
+    seven = record { processor = record { registers = registers_of_seven; due = due_of_seven; steps = steps_of_seven }; wram = wram };
+    main = main;
+    shared = shared;
+    palette = palette;
+    oam = oam;
+    io = record {
+      video = video;
+      vram = vram;
+      wramcnt = wramcnt;
+      ipc = ipc;
+      pressed = pressed;
+      fill = fill;
+      card = card;
+      divider = divider;
+      root = root;
+      gx = gx;
+      released = released_again at gx dma_of_nine;
+      nine = record {
+        irq = irq_levelled irq_of_nine (gx_level gx);
+        timers = timers_of_nine;
+        keycnt = keycnt_of_nine;
+        halted = halted_of_nine;
+        dma = dma_of_nine;
+      };
+      seven = record { irq = irq_of_seven; timers = timers_of_seven; keycnt = keycnt_of_seven; halted = halted_of_seven; dma = dma_of_seven };
+    };
+    keys = script_from at keys;
+    events = events;
+    file = file;
+  })
 
 -- ---- what the machine owes of it
 

@@ -2,7 +2,7 @@ use Rattle.std.specs.Prelude.{ℕ, ◌+◌, List}
 use Rattle.arm_core.specs.Registers.{RegisterState}
 use Rattle.cp15_tcm.specs.Registers.{Cp15State}
 use Rattle.ds_base.specs.declared.keys.KeyLine.{KeyLine}
-use Rattle.ds_ports.specs.Io.{IoState}
+use Rattle.ds_ports.specs.declared.units.IoParts.{IoParts as IoState}
 
 -- The machine's state: one part for each unit, each processor's own part apart, so that an actor's step names the parts that it
 -- uses and leaves the others alone.

@@ -1,4 +1,4 @@
-use Rattle.std.specs.Prelude.{ℕ, ◌+◌, ◌*◌, ◌&&◌, max, nat_le, Bool, true, false, if◌then◌else◌, [], Option, Some, None}
+use Rattle.std.specs.Prelude.{ℕ, ◌+◌, ◌*◌, ◌&&◌, max, Bool, true, false, if◌then◌else◌, [], Option, Some, None}
 use Rattle.ds_base.specs.Processors.{ticks_per_clock}
 use Rattle.ds_base.specs.declared.left_out.LeftOut.{LeftOut}
 use Rattle.ds_base.specs.declared.left_out.Stop.{Stop}
@@ -11,7 +11,8 @@ use Rattle.ds_base.specs.declared.ticks.Tick.{Tick}
 use Rattle.ds_dma.specs.declared.channels.LastUnit.{LastUnit}
 use Rattle.ds_map.specs.Maps.{MapState, bytes_by}
 use Rattle.ds_map.specs.Views.{NineReach, SevenReach, nine_memory, seven_memory}
-use Rattle.ds_ports.specs.Io.{IoState, io_of, is_held, settled, with_halted}
+use Rattle.ds_ports.specs.declared.units.IoParts.{IoParts as IoState}
+use Rattle.ds_ports.specs.Io.{io_of, is_held, settled, with_halted}
 use Rattle.ds_timers.specs.Irqs.{line_is_up, shares_bit}
 use Rattle.ds_runs.specs.Runs.{MachineStep, Makes, Stops}
 use Rattle.ds_machine.specs.Sides.{nine_step, seven_step, waits_of_step, taken}
@@ -102,15 +103,11 @@ pub record StepOutcome : Type 0 where
 
 abbrev pub outcome_of : Proc → Tick → MachineState → StepOutcome
 outcome_of Nine now s =
-    let line = line_of s Nine in
-    let old = s.nine.processor.registers in
-    let r = nine_reach now s in
+    let line = line_of s Nine in let old = s.nine.processor.registers in let r = nine_reach now s in
     let o = taken nine_memory nine_step line old r in
     record { machine = with_nine s o; stepped = in_ticks Nine (waits_of_step nine_memory nine_step line old r) o.stepped }
 outcome_of Seven now s =
-    let line = line_of s Seven in
-    let old = s.seven.processor.registers in
-    let r = seven_reach now s in
+    let line = line_of s Seven in let old = s.seven.processor.registers in let r = seven_reach now s in
     let o = taken seven_memory seven_step line old r in
     record { machine = with_seven s o; stepped = in_ticks Seven (waits_of_step seven_memory seven_step line old r) o.stepped }
 
@@ -139,9 +136,8 @@ left_out_by rank p stop = record { kind = stop.kind; tick = tick_of p; rank = ra
 
 -- the machine's step, by what the processor came to, on the machine that it left
 abbrev pub machine_concluded : {O : Type 0} → ℕ → Proc → MachineState → arm.Stepped → MachineStep MachineState O LeftOut
-machine_concluded rank proc s (Cost ticks) = Makes (gone_by proc (Cost ticks) s) []
-machine_concluded rank proc s (Halted ticks) = Makes (gone_by proc (Halted ticks) s) []
 machine_concluded rank proc s (Left stop) = Stops (left_out_by rank (processor_of s proc) stop) s
+machine_concluded rank proc s stepped = Makes (gone_by proc stepped s) []
 
 -- its step, at the tick at which it is due
 abbrev pub processor_step : {O : Type 0} → ℕ → Proc → MachineState → MachineStep MachineState O LeftOut
@@ -149,10 +145,10 @@ processor_step rank proc s = let o = outcome_of proc (tick_of (processor_of s pr
 
 -- ---- after a tick, and after a processor's last unit of DMA
 
--- a processor goes on after a tick at the earliest, and once the waits of its last unit are over (our choice); no unit is later than the tick
+-- a processor goes on after a tick at the earliest, and once the waits of its last unit are over (our choice)
 abbrev pub past_unit : Option LastUnit → Tick → ℕ
 past_unit None now = now.0 + 1
-past_unit (Some last) now = if nat_le last.tick.0 now.0 then max (now.0 + 1) (last.tick.0 + last.waits + 1) else now.0 + 1
+past_unit (Some last) now = max (now.0 + 1) (last.tick.0 + last.waits + 1)
 
 abbrev pub due_past_unit : MachineState → Proc → Tick → ℕ
 due_past_unit s proc now = past_unit (io_of s.io proc).dma.last now

@@ -1,5 +1,5 @@
 use Rattle.std.specs.Prelude.{ℕ}
-use Rattle.ds_machine.specs.Saved.{Around, made_io, made_machine}
+use Rattle.ds_machine.specs.SavedParts.{Around, made_io, made_machine}
 use Rattle.ds_machine.specs.States.{MachineState}
 use Rattle.ds_machine.specs.declared.saved.Taken.{Taken}
 

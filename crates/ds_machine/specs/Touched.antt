@@ -6,7 +6,7 @@ use Rattle.ds_runs.specs.Runs.{MachineStep, Makes, Stops}
 use Rattle.ds_runs.specs.declared.actors.Actor as actor
 use Rattle.ds_runs.specs.declared.actors.Actor.TheVariants.{KeyScript, Video, Timer, Divider, SquareRoot, Geometry, Card, Dma, Processor}
 use Rattle.ds_map.specs.ShareLaws.{is_beyond_seven, is_shown_to_nine}
-use Rattle.ds_ports.specs.Io.{IoState}
+use Rattle.ds_ports.specs.declared.units.IoParts.{IoParts as IoState}
 use Rattle.ds_ports.specs.Touches as parts
 use Rattle.ds_ports.specs.Touches.{UnitPart, Display, VideoMemory, BankControls, WramControl, IpcNine, IpcSeven, Pressed, Fill, Division, Released, IrqNine, IrqSeven, TimersNine, TimersSeven, KeycntNine, KeycntSeven, HaltNine, HaltSeven, DmaNine, DmaSeven, beyond, io_graft, irq_of, timers_of}
 use Rattle.vram_banks.specs.MixLaws.{mixed}

@@ -3,6 +3,8 @@
 ghost use Rattle.std.specs.Prelude.{◌≡◌, ◌≤◌, ◌+◌, ◌*◌, ◌^◌};
 ghost use Rattle.arm_core.specs.Cores as cores;
 ghost use Rattle.ds_base.specs.Processors.{architecture_of, ticks_per_clock};
+ghost use Rattle.ds_base.specs.Schedules.{IsEarly};
+ghost use Rattle.ds_dma.specs.States.{last_tick};
 ghost use Rattle.ds_header.specs.Fields.{image_entry};
 ghost use Rattle.ds_machine.specs.Booted.{stacks_of};
 ghost use Rattle.ds_machine.specs.Channels.{past_tick};
@@ -87,14 +89,13 @@ pub fn ticks_of(proc: Proc, clocks: u32, waits: u32) -> u64
 /// When a processor goes on after a tick, by its last unit of DMA, if there was one: at the next tick, or once the unit's waits are over.
 #[inline(always)]
 pub fn past_unit(last: Option<LastUnit>, tick: Tick) -> u64
-    requires { tick.0 ≤ 2 ^ 56 }
+    requires tick { tick.0 ≤ 2 ^ 56 }
+    requires unit { IsEarly (last_tick last) }
     ensures value { result ≡ steps.past_unit last tick }
     ensures early { result ≤ 2 ^ 57 }
 {
     match last {
-        Some(last) if last.tick.0 <= tick.0 => {
-            (tick.0 + 1).max(last.tick.0 + last.waits as u64 + 1)
-        }
-        _ => tick.0 + 1,
+        Some(last) => (tick.0 + 1).max(last.tick.0 + last.waits as u64 + 1),
+        None => tick.0 + 1,
     }
 }

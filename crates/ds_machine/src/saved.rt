@@ -4,7 +4,9 @@ ghost use Rattle.std.specs.Prelude.{◌≡◌, ℕ, List, IfOk, OnOk, Some, slic
 ghost use Rattle.ds_base.specs.Schedules.{IsEarly};
 ghost use Rattle.ds_base.specs.declared.keys.KeyLine.{KeyLine};
 ghost use Rattle.ds_machine.specs.Processors.{processor_taken};
-ghost use Rattle.ds_machine.specs.Saved.{MachinesAreSaved, around_of, asked_of, machine_format, made_io, released_again, script_from};
+ghost use Rattle.ds_machine.specs.Saved.{MachinesAreSaved, machine_format, released_again, script_from};
+ghost use Rattle.ds_machine.specs.SavedParts.{asked_of};
+ghost use Rattle.ds_machine.specs.SavedParts.{around_of, machine_parts, made_io};
 ghost use Rattle.ds_machine.specs.States.{with_file};
 ghost use Rattle.ds_machine.specs.Taken.{taken_machine};
 ghost use Rattle.ds_state.specs.Formats.{bytes_written};
@@ -110,7 +112,7 @@ fn made_io(
 
 impl Parts {
     /// Puts the parts. The error is want of memory.
-    #[tactic(auto, unfolding(crate::specs::Saved::machine_format_by))]
+    #[tactic(auto, using(crate::proofs::SavedParts::machine_writes), unfolding(crate::specs::SavedParts::machine_parts))]
     pub fn pack(&self, into: &mut Packer) -> Result<(), AllocError>
         ensures { (file : List ℕ) (keys : List KeyLine) (nine seven events at : ℕ)
             → OnOk result (into.new ≡ bytes_written (machine_format file keys nine seven events at) into.old (with_file file self.now)) }
@@ -126,6 +128,7 @@ impl Parts {
     }
 
     /// Takes what `pack` puts, with a cartridge, a whole key script, and the counts of steps of ARM9, of ARM7 and of all others.
+    #[tactic(auto, using(crate::proofs::SavedParts::machine_reads))]
     pub fn unpack(
         alloc: Global,
         cart: &Cart,
@@ -158,12 +161,12 @@ pub struct Taken {
 
 impl Taken {
     /// Takes all of it, with the cartridge's file.
-    #[tactic(auto, unfolding(crate::specs::Saved::machine_format_by))]
+    #[tactic(auto, unfolding(crate::specs::SavedParts::machine_parts))]
     fn take(alloc: Global, from: &mut Unpacker, at: Tick, file: &[u8]) -> Result<Taken, Unpacked>
         requires { IsEarly (Some at) }
         ensures { (keys : List KeyLine) (nine seven events : ℕ)
             → GivesIn (taken_machine (around_of file.now keys nine seven events) at.0) result from.new
-            (read_format (machine_format file.now keys nine seven events at.0) at.0 from.old) }
+            (read_format (machine_parts (around_of file.now keys nine seven events) at.0) at.0 from.old) }
     {
         let processors = SavedProcessors::take(from, at)?;
         let memories = SavedMemories::take(alloc, from, at)?;

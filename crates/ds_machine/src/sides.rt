@@ -6,7 +6,7 @@ ghost use Rattle.arm_core.specs.declared.outcomes.Stepped.TheVariants.{Cost};
 ghost use Rattle.arm_ops.specs.Meanings.{access_made, accesses_by, operation_meaning, AreNear};
 ghost use Rattle.arm_ops.specs.Operations.{is_decoded, is_other, HasAccess, HasOperation};
 ghost use Rattle.arm_words.specs.Fields.{HasFields};
-ghost use Rattle.ds_ports.specs.Io.{IoState};
+ghost use Rattle.ds_ports.specs.declared.units.IoParts.{IoParts as IoState};
 ghost use Rattle.cp15_tcm.specs.TightlyCoupled.{tcm_of};
 ghost use Rattle.ds_base.specs.declared.processors.Proc.TheVariants.{Nine};
 ghost use Rattle.ds_places.specs.AddressTables.{place_of};

@@ -22,7 +22,8 @@ pub use Rattle.ds_places.specs.declared.kinds.Place.{Place}
 pub use Rattle.ds_places.specs.declared.kinds.Place.TheVariants.{Banks, Cell, Nothing, Port, Rom}
 pub use Rattle.ds_ports.proofs.Arms.{is_control_word}
 pub use Rattle.ds_ports.proofs.GxApart.{is_geometry_offset}
-pub use Rattle.ds_ports.specs.Io.{IoState, channel_moved, channel_put_back, io_of}
+pub use Rattle.ds_ports.specs.declared.units.IoParts.{IoParts as IoState}
+pub use Rattle.ds_ports.specs.Io.{channel_moved, channel_put_back, io_of}
 pub use Rattle.ds_ports.specs.Ports.{port_read, port_refusal, port_value, port_written, unless_stopped}
 pub use Rattle.ds_ports.specs.ProcessorIo.{before_move}
 pub use Rattle.ds_ports.specs.Touches.{BankControls, UnitPart, VideoMemory, WramControl, io_graft, touches_none}

@@ -35,13 +35,10 @@ abbrev pub after_read_at : Proc → Tick → Place → MapState → Width → Ma
 after_read_at proc now (Port at) m width = record m { io = port_read proc now m.io (aligned_down width at) width }
 after_read_at proc now place m width = m
 
--- what is fetched at a place: from a port 0 (our choice)
+-- what is fetched at a place: from a port 0 (our choice), and elsewhere what is read, which is the same at each tick
 abbrev pub fetched_at : Proc → Place → MapState → Width → ℕ
-fetched_at proc (Cell memory at) m width = number_at width (cells_of m.memories memory) (aligned_down width at)
-fetched_at proc (Banks space at) m width = vram_value m.io.vram space at width
 fetched_at proc (Port at) m width = 0
-fetched_at proc (Rom at) m width = rom_value proc (aligned_down width at) width
-fetched_at proc Nothing m width = 0
+fetched_at proc place m width = value_at proc (record { 0 = 0 }) place m width
 
 -- the memories that take no bytes of ARM9, and its byte accesses (GBATEK, "DS Memory Map": palettes, video memory and OAM are written
 -- by halves and words)

@@ -12,7 +12,7 @@ use Rattle.ds_places.specs.AddressTables.{place_of}
 use Rattle.ds_places.specs.declared.kinds.Place.{Place}
 use Rattle.ds_places.specs.declared.kinds.Place.TheVariants.{Port}
 use Rattle.ds_ports.specs.Guards.{is_overfull}
-use Rattle.ds_ports.specs.Io.{IoState}
+use Rattle.ds_ports.specs.declared.units.IoParts.{IoParts as IoState}
 use Rattle.ds_map.specs.Accesses.{map_refusal, map_written, refusal_at, written_at}
 use Rattle.ds_map.specs.Maps.{MapState}
 use Rattle.ds_map.specs.Views.{NineReach, nine_memory, tcm_refusal, tcm_written}

@@ -3,7 +3,7 @@ use Rattle.ds_base.specs.declared.memories.Memory.{Memory}
 use Rattle.ds_base.specs.declared.memories.Memory.TheVariants.{Main, Shared, Own7, Itcm, Dtcm, Palette, Vram, Oam}
 use Rattle.ds_base.specs.declared.processors.Proc.{Proc}
 use Rattle.ds_base.specs.declared.processors.Proc.TheVariants.{Nine, Seven}
-use Rattle.ds_ports.specs.Io.{IoState}
+use Rattle.ds_ports.specs.declared.units.IoParts.{IoParts as IoState}
 
 -- What stands behind the addresses past the tightly coupled memories (GBATEK, "DS Memory Map").
 

@@ -8,7 +8,8 @@ use Rattle.ds_dma.specs.declared.channels.Unit.{Unit as DmaUnit}
 use Rattle.ds_map.specs.Accesses.{map_read, map_refusal, map_value, map_written}
 use Rattle.ds_map.specs.Maps.{MapState}
 use Rattle.ds_map.specs.Waits.{wait_at}
-use Rattle.ds_ports.specs.Io.{IoState, channel_moved, io_of}
+use Rattle.ds_ports.specs.declared.units.IoParts.{IoParts as IoState}
+use Rattle.ds_ports.specs.Io.{channel_moved, io_of}
 
 -- How a DMA channel moves a unit (GBATEK, "DS DMA Transfers"; the order is our choice): it reads it, takes it from its plan with all that taking the
 -- last one brings, and then writes it. Where the write is refused all is as it was after the read: the unit is still in the plan. Both accesses wait

@@ -10,7 +10,7 @@ ghost use Rattle.ds_places.specs.Waits.{wait_of};
 ghost use Rattle.cp15_tcm.specs.TightlyCoupled.{main_first, main_last};
 ghost use Rattle.ds_base.specs.declared.processors.Proc.{Proc};
 ghost use Rattle.ds_base.specs.declared.ticks.Tick.{Tick};
-ghost use Rattle.ds_ports.specs.Io.{IoState};
+ghost use Rattle.ds_ports.specs.declared.units.IoParts.{IoParts as IoState};
 ghost use Rattle.ds_map.specs.MapLaws.{blank_memories, is_reached, map_seen, reached, reaches, unreached_oam, unreached_palette, unreached_wram};
 ghost use Rattle.ds_map.specs.Maps.{cells_of, with_cells};
 ghost use Rattle.ds_base.specs.Schedules.{IsEarly};

@@ -1,6 +1,6 @@
 use Rattle.ds_ports.proofs.Words.{◌||◌, ℕ, zero, suc, ◌≡◌, ◌<◌, ◌≤◌, ◌+◌, ◌-◌, ◌/◌, ◌%◌, inl, inr, ◌==◌, Bool, true, false, true≢false, if◌then◌else◌}
 use Rattle.ds_ports.proofs.Words.{List, [], ◌∷◌, length, slice_set, Some, None, refl, sym, ◌∙◌, ap, subst, arith, both, equal, one_of, width_bytes}
-use Rattle.ds_ports.proofs.Words.{Width, Proc, Nine, Seven, Tick, ChannelState, after_unit, is_last_of_burst, is_last_unit, is_triggered, triggered}
+use Rattle.ds_ports.proofs.Words.{Width, Proc, Nine, Seven, Tick, Channel, after_unit, is_last_of_burst, is_last_unit, is_triggered, triggered}
 use Rattle.ds_ports.proofs.Words.{is_armed_again, is_enabled, waits_for, DmaState, channel_at, dma_finished, dma_triggered, due_channel}
 use Rattle.ds_ports.proofs.Words.{least_running, Cause, is_armed, IoState, port_read, port_written, PortRow, register_map, row_bytes, slot_in}
 use Rattle.ds_ports.proofs.Words.{slot_of, after_write, Register, Dmasad, Dmadad, Dmacnt, DmaNine}
@@ -56,31 +56,31 @@ arms_kept old new k = record {
 
 -- ---- lists of channels of which one is another, or each
 
-module _ (Q : ChannelState → ChannelState → Type 0) (same : (c : ChannelState) → Q c c) where
-  set_each : (xs : List ChannelState) (n : ℕ) (c : ChannelState) → Q (channel_at xs n) c → (which : ℕ) → Q (channel_at xs which) (channel_at (slice_set xs n c) which)
+module _ (Q : Channel → Channel → Type 0) (same : (c : Channel) → Q c c) where
+  set_each : (xs : List Channel) (n : ℕ) (c : Channel) → Q (channel_at xs n) c → (which : ℕ) → Q (channel_at xs which) (channel_at (slice_set xs n c) which)
   set_each [] n c q which = same _
   set_each (x ∷ xs) zero c q zero = q
   set_each (x ∷ xs) zero c q (suc which) = same _
   set_each (x ∷ xs) (suc n) c q zero = same _
   set_each (x ∷ xs) (suc n) c q (suc which) = set_each xs n c q which
 
-  map_each : (f : ChannelState → ChannelState) → ((c : ChannelState) → Q c (f c)) → (xs : List ChannelState) (which : ℕ) → Q (channel_at xs which) (channel_at (map f xs) which)
+  map_each : (f : Channel → Channel) → ((c : Channel) → Q c (f c)) → (xs : List Channel) (which : ℕ) → Q (channel_at xs which) (channel_at (map f xs) which)
   map_each f q [] which = same _
   map_each f q (x ∷ xs) zero = q x
   map_each f q (x ∷ xs) (suc which) = map_each f q xs which
 
-abbrev SameControl : ChannelState → ChannelState → Type 0
+abbrev SameControl : Channel → Channel → Type 0
 SameControl old new = new.cnt ≡ old.cnt
 
-keeps_set : (dma : DmaState) (n : ℕ) (c : ChannelState) → c.cnt ≡ (channel_at dma.channels n).cnt → KeepsControls dma (record dma { channels = slice_set dma.channels n c })
+keeps_set : (dma : DmaState) (n : ℕ) (c : Channel) → c.cnt ≡ (channel_at dma.channels n).cnt → KeepsControls dma (record dma { channels = slice_set dma.channels n c })
 keeps_set dma n c e = record { proc = refl; long = length-set dma.channels n c; cnt = set_each SameControl (λ x. refl) dma.channels n c e }
 
 -- an event triggers channels, and leaves their controls
-cnt_of : (b : Bool) (x c : ChannelState) → x.cnt ≡ c.cnt → (if b then x else c).cnt ≡ c.cnt
+cnt_of : (b : Bool) (x c : Channel) → x.cnt ≡ c.cnt → (if b then x else c).cnt ≡ c.cnt
 cnt_of true x c e = e
 cnt_of false x c e = refl
 
-triggered_cnt : (proc : Proc) (cause : Cause) (now : Tick) (c : ChannelState) → (triggered proc cause now c).cnt ≡ c.cnt
+triggered_cnt : (proc : Proc) (cause : Cause) (now : Tick) (c : Channel) → (triggered proc cause now c).cnt ≡ c.cnt
 triggered_cnt proc cause now c = cnt_of (is_triggered proc cause c) (record c { trigger = Some now; burst = burst_of cause c.remaining }) c refl
 
 pub triggered_keeps : (dma : DmaState) (cause : Cause) (now : Tick) → KeepsControls dma (dma_triggered dma cause now)
@@ -92,7 +92,7 @@ triggered_keeps dma cause now =
 off : (control : ℕ) → is_enabled (disabled control) ≡ false
 off control = grind (arith, rules)
 
-unit_arms : (proc : Proc) (which : ℕ) (c : ChannelState) → is_armed c.cnt ≡ false → is_armed (after_unit proc which c).cnt ≡ false
+unit_arms : (proc : Proc) (which : ℕ) (c : Channel) → is_armed c.cnt ≡ false → is_armed (after_unit proc which c).cnt ≡ false
 unit_arms proc which c h = by_kind (is_last_unit c) (is_last_of_burst c) (is_armed_again proc c.cnt) where
   by_kind : (last burst again : Bool)
       → is_armed (if not last then (if burst then record (rest_of c) { trigger = None } else rest_of c) else (if again then armed_again proc which c else emptied c (disabled c.cnt))).cnt
@@ -106,7 +106,7 @@ pub finished_arms : (dma : DmaState) (now : Tick) (waits : ℕ) → ArmsNoMore d
 finished_arms dma now waits =
     let which = least_running dma.channels in
     let c = after_unit dma.proc which (due_channel dma) in
-    let Q : ChannelState → ChannelState → Type 0 = λ x y. is_armed x.cnt ≡ false → is_armed y.cnt ≡ false in
+    let Q : Channel → Channel → Type 0 = λ x y. is_armed x.cnt ≡ false → is_armed y.cnt ≡ false in
     record {
       long = length-set dma.channels which c;
       none = set_each Q (λ x h. h) dma.channels which c (unit_arms dma.proc which (due_channel dma));

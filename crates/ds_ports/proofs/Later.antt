@@ -27,6 +27,7 @@ use Rattle.ds_ports.proofs.GxPorts.{written_last, written_longer, written_stalls
 use Rattle.ds_ports.proofs.DisplayPorts.{written_scan, written_whole}
 use Rattle.ds_ports.proofs.RegisterMaps.{some_slot}
 use Rattle.ds_ports.proofs.Told.{AreIpcAtBoth, control_ipc, raised_told, receive_ipc, send_ipc, sync_ipc, told_nothing, told_on}
+use Rattle.ds_ports.specs.RegisterMap.{numbers_of}
 
 -- Accesses make no due tick earlier, and leave each at its tick or later.
 
@@ -439,7 +440,7 @@ card_goes proc now u s width number value =
     (card_each now u card (write_schedules u.card proc number width value now))
 
 register_goes : (proc : Proc) (now : Tick) (u : IoState) → Stands now (io_of u proc) → (register : Register) (number : ℕ)
-    → number < (meaning_of register).count → (value : ℕ) → Goes proc now u (after_write proc now u register number value)
+    → number < numbers_of register → (value : ℕ) → Goes proc now u (after_write proc now u register number value)
 register_goes proc now u s Dmasad number l value = processor_io_goes proc now u _ (dma_stands (io_of u proc) now Source number value s l)
 register_goes proc now u s Dmadad number l value = processor_io_goes proc now u _ (dma_stands (io_of u proc) now Target number value s l)
 register_goes proc now u s Dmacnt number l value = processor_io_goes proc now u _ (dma_stands (io_of u proc) now Control number value s l)

@@ -1,10 +1,11 @@
 use Rattle.ds_ports.proofs.Words.{ℕ, zero, suc, ◌≡◌, ◌<◌, ◌≤◌, ◌+◌, ◌-◌, ◌/◌, ◌⊎◌, inl, inr, Bool, true, false, true≢false, ◌==◌, nat_le, nat_lt}
 use Rattle.ds_ports.proofs.Words.{if◌then◌else◌, List, [], ◌∷◌, ◌++◌, Option, Some, None, refl, sym, ◌∙◌, subst, arith, IfSome, div-lt_iff_lt-mul}
 use Rattle.ds_ports.proofs.Words.{mod-lt, both, le_of, Proc, Slot, Nine, Seven, PortRow, row_bytes, slot_in, slot_by, slot_of, register_map, IsSlot}
-use Rattle.ds_ports.proofs.Words.{meaning_of, slot_among}
+use Rattle.ds_ports.proofs.Words.{slot_among}
 use Rattle.std.proofs.Common.{◌&&◌, ◌||◌}
 use Rattle.ds_base.proofs.Choices.{lt_of}
 use Rattle.ds_ports.specs.Parts.{Part, whole, looked_up, parts_of}
+use Rattle.ds_ports.specs.RegisterMap.{numbers_of}
 
 -- all rows lie from one offset up to another
 abbrev pub lie : ℕ → ℕ → List PortRow → Bool
@@ -162,7 +163,7 @@ of_place p r offset h inside =
 
 -- each row has registers of at most four bytes, and no more of a name than there are
 abbrev pub is_of_its_name : PortRow → ℕ → Bool
-is_of_its_name r place = nat_lt (r.number place) (meaning_of (r.register place)).count
+is_of_its_name r place = nat_lt (r.number place) (numbers_of (r.register place))
 
 abbrev fits : PortRow → Bool
 fits r = nat_le r.bytes 4 && each_place is_of_its_name r
@@ -171,7 +172,7 @@ slot_in-is : (r : PortRow) (offset : ℕ) → fits r ≡ true → offset < row_b
 slot_in-is r offset h inside =
     let two = both (nat_le r.bytes 4) (each_place is_of_its_name r) h in
     record {
-      number = lt_of (r.number (offset / r.bytes)) (meaning_of (r.register (offset / r.bytes))).count (of_place is_of_its_name r offset two.1 inside);
+      number = lt_of (r.number (offset / r.bytes)) (numbers_of (r.register (offset / r.bytes))) (of_place is_of_its_name r offset two.1 inside);
       byte = mod-lt offset (lt_of 0 r.bytes (both (nat_lt 0 r.bytes) (each_below r.count (is_of_its_name r)) two.1).0);
       bytes = le_of r.bytes 4 two.0;
     }

@@ -1,5 +1,5 @@
 use Rattle.ds_ports.proofs.Words.{◌&&◌, ◌||◌, not, ℕ, ◌≡◌, ◌==◌, Bool, true, false, true≢false, if◌then◌else◌, List, Option, None, Some, is_some}
-use Rattle.ds_ports.proofs.Words.{refl, sym, ◌∙◌, ap, both, equal, Proc, Nine, Seven, Tick, ChannelState, is_triggered, is_enabled, waits_for}
+use Rattle.ds_ports.proofs.Words.{refl, sym, ◌∙◌, ap, both, equal, Proc, Nine, Seven, Tick, Channel, is_triggered, is_enabled, waits_for}
 use Rattle.ds_ports.proofs.Words.{DmaState, awaits_geometry, channel_at, dma_due, Geometry, irq_levelled, GxState, gx_finished, gx_level, gx_written}
 use Rattle.ds_ports.proofs.Words.{is_half_empty, is_stalled, acting_io_due, first_acting_io_due, is_armed, is_silent, first_with, IoState}
 use Rattle.ds_ports.proofs.Words.{geometry_done, io_event, is_settled, release_by, with_gx, after_write, Register, GxWord, GxCommand}
@@ -63,7 +63,7 @@ unarmed true waits runs h = rw h refl
 unarmed false waits runs h = refl
 
 -- (a channel of ARM7's never waits for it)
-untriggered : (proc : Proc) (c : ChannelState) → is_armed c.cnt ≡ false → is_triggered proc causes.Geometry c ≡ false
+untriggered : (proc : Proc) (c : Channel) → is_armed c.cnt ≡ false → is_triggered proc causes.Geometry c ≡ false
 untriggered Nine c h = unarmed (is_enabled c.cnt) (waits_for Nine causes.Geometry c.cnt) (is_running c) h
 untriggered Seven c h = unarmed (is_enabled c.cnt) false (is_running c) (and_false (is_enabled c.cnt))
 
@@ -74,7 +74,7 @@ any_of _ _ _ _ w x y z f g h k e = absurd (true≢false e)
 
 none_awaits : (dma : DmaState) → any_armed dma ≡ false → awaits_geometry dma ≡ false
 none_awaits dma =
-    let at : ℕ → ChannelState = λ which. channel_at dma.channels which in
+    let at : ℕ → Channel = λ which. channel_at dma.channels which in
     let armed : ℕ → Bool = λ which. is_armed (at which).cnt in
     let waits : ℕ → Bool = λ which. is_triggered dma.proc causes.Geometry (at which) in
     let by : (which : ℕ) → armed which ≡ false → waits which ≡ false = λ which h. untriggered dma.proc (at which) h in

@@ -1,6 +1,6 @@
 use Rattle.ds_ports.proofs.Words.{ℕ, zero, suc, ◌≡◌, ◌<◌, ◌≤◌, ◌^◌, inl, inr, Bool, true, false, if◌then◌else◌, List, slice_set, bit_and, bit_or}
 use Rattle.ds_ports.proofs.Words.{Option, Some, None, refl, sym, ◌∙◌, ap, subst, arith, ◌&&◌, not, IsSome, bit_at, bit_not, w32, bit_at_and}
-use Rattle.ds_ports.proofs.Words.{bit_at_or, same_from_bits, either, equal, interrupt_bit, Keys, Stop, Proc, Tick, ChannelState, after_unit}
+use Rattle.ds_ports.proofs.Words.{bit_at_or, same_from_bits, either, equal, interrupt_bit, Keys, Stop, Proc, Tick, Channel, after_unit}
 use Rattle.ds_ports.proofs.Words.{is_last_of_burst, is_last_unit, is_triggered, triggered, is_armed_again, is_enabled, DmaState, IsDma, channel_at}
 use Rattle.ds_ports.proofs.Words.{dma_due, dma_finished, dma_triggered, due_channel, least_running, most_waits, Cause, DmaPort, Source, Target}
 use Rattle.ds_ports.proofs.Words.{Control, channel_written_is, dma_finished_is, dma_triggered_is, events, level, TimerState, AreTimers, control_set}
@@ -109,10 +109,10 @@ module _ (limit : ℕ) where
 
   -- ---- channels
 
-  abbrev HasTrigger : ChannelState → Type 0
+  abbrev HasTrigger : Channel → Type 0
   HasTrigger c = IsBy limit c.trigger
 
-  set_trigger : (proc : Proc) (which : ℕ) (port : DmaPort) (value : ℕ) (now : Tick) (c : ChannelState) → HasTrigger c → now.0 ≤ limit
+  set_trigger : (proc : Proc) (which : ℕ) (port : DmaPort) (value : ℕ) (now : Tick) (c : Channel) → HasTrigger c → now.0 ≤ limit
       → HasTrigger (channel_set proc which port value now c)
   set_trigger proc which Source value now c was le = was
   set_trigger proc which Target value now c was le = was
@@ -143,14 +143,14 @@ module _ (limit : ℕ) where
   event_within : (s : DmaState) (cause : Cause) (now : Tick) → IsDma s → now.0 ≤ limit → ChannelsAreBy limit s → ChannelsAreBy limit (dma_triggered s cause now)
   event_within s cause now is le was =
       let f = triggered s.proc cause now in
-      let keeps : (c : ChannelState) → HasTrigger c → HasTrigger (f c) =
+      let keeps : (c : Channel) → HasTrigger c → HasTrigger (f c) =
       λ c h. either_by HasTrigger (is_triggered s.proc cause c) _ _ (λ e. le) (λ e. h) in
       record {
         trigger = λ i m. subst HasTrigger (sym (at_mapped f s.channels i is.four m)) (keeps (channel_at s.channels i) (was.trigger i m));
         last = was.last;
       }
 
-  unit_trigger : (proc : Proc) (which : ℕ) (c : ChannelState) → HasTrigger c → HasTrigger (after_unit proc which c)
+  unit_trigger : (proc : Proc) (which : ℕ) (c : Channel) → HasTrigger c → HasTrigger (after_unit proc which c)
   unit_trigger proc which c was =
       either_by HasTrigger (not (is_last_unit c)) _ _ (λ e. either_by HasTrigger (is_last_of_burst c) _ _ (λ f. tt) (λ f. was))
       (λ e. either_by HasTrigger (is_armed_again proc c.cnt) _ _ (λ f. tt) (λ f. tt))

@@ -25,6 +25,7 @@ use Rattle.ds_ports.proofs.Later.{each_processor_io}
 use Rattle.ds_ports.proofs.Passed.{any_covered, any_register}
 use Rattle.ds_ports.proofs.RegisterMaps.{some_slot}
 use Rattle.ds_ports.proofs.WithinOwn.{OwnStays, acked_own, alike, chosen_own, control_own, enabled_own, port_own, raised_own, reload_own, told_own}
+use Rattle.ds_ports.specs.RegisterMap.{numbers_of}
 
 -- Accesses at a tick below a limit keep the units within it.
 
@@ -234,7 +235,7 @@ module _ (limit : ℕ) where
   halted_stays proc own value h = either (OwnStays limit proc) (bits 6 2 value == 2) _ _ (alike limit proc own (record own { halted = true }) refl refl refl refl refl h) h
 
   module _ (proc : Proc) (now : Tick) (lt : now.0 < limit) where
-    register_stays : (u : IoState) (register : Register) (number : ℕ) → number < (meaning_of register).count → (value : ℕ) → Stays u
+    register_stays : (u : IoState) (register : Register) (number : ℕ) → number < numbers_of register → (value : ℕ) → Stays u
         → Stays (after_write proc now u register number value)
     register_stays u Dmasad number l value h = with_own proc u _ h (port_own limit proc (io_of u proc) now Source number value l (omega (arith, lt)) (own_stays u h proc))
     register_stays u Dmadad number l value h = with_own proc u _ h (port_own limit proc (io_of u proc) now Target number value l (omega (arith, lt)) (own_stays u h proc))

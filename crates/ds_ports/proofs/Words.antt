@@ -26,7 +26,8 @@ pub use Rattle.ds_card.specs.CardPorts.{data_port_at}
 pub use Rattle.ds_card.specs.Cards.{CardState, card_after_event, card_after_read, card_due, card_starter, card_written, event_readies, read_raised}
 pub use Rattle.ds_dma.proofs.Turns.{all_later, event_schedules}
 pub use Rattle.ds_dma.proofs.Wholes.{channel_written_is, dma_finished_is, dma_triggered_is, event_runs}
-pub use Rattle.ds_dma.specs.Channels.{ChannelState, after_unit, is_last_of_burst, is_last_unit, is_triggered, ready, triggered}
+pub use Rattle.ds_dma.specs.declared.channels.Channel.{Channel}
+pub use Rattle.ds_dma.specs.Channels.{after_unit, is_last_of_burst, is_last_unit, is_triggered, ready, triggered}
 pub use Rattle.ds_dma.specs.Controls.{is_armed_again, is_enabled, waits_for}
 pub use Rattle.ds_dma.specs.States.{AreReadyLater, DmaState, IsDma, any_runs, awaits_geometry, channel_at, channel_due, dma_due, dma_finished}
 pub use Rattle.ds_dma.specs.States.{dma_triggered, due_channel, due_with, least_running, most_waits}
@@ -45,7 +46,8 @@ pub use Rattle.ds_timers.proofs.Changed.{control_set_is, reload_set_is}
 pub use Rattle.ds_timers.proofs.Four.{one_reschedules}
 pub use Rattle.ds_timers.proofs.Overflowed.{overflow_keeps}
 pub use Rattle.ds_timers.specs.Irqs.{IrqState, events, irq_levelled, level}
-pub use Rattle.ds_timers.specs.Timing.{AreTimers, TimerState, control_set, kept_control, overflow_of, reload_set, timer_at, timer_due}
+pub use Rattle.ds_timers.specs.declared.timers.Timer.{Timer as TimerState}
+pub use Rattle.ds_timers.specs.Timing.{AreTimers, control_set, kept_control, overflow_of, reload_set, timer_at, timer_due}
 pub use Rattle.gx_fifo.specs.Entries.{complete_command, entries_taken}
 unfoldable pub use Rattle.gx_fifo.specs.GxPorts.{gx_port}
 pub use Rattle.gx_fifo.specs.GxStates.{AreWaiting, GxState, IsGx, done_by, gx_finished, gx_kept, gx_level, gx_written, is_half_empty, is_stalled}

@@ -17,33 +17,18 @@ use Rattle.ds_runs.specs.declared.actors.Actor.TheVariants.{KeyScript, Video, Ti
 use Rattle.ds_timers.specs.Irqs.{irq_levelled}
 use Rattle.ds_timers.specs.Timing.{overflow_of}
 use Rattle.ds_ports.specs.ProcessorIo.{BeforeMove, blocks_processor, ProcessorIoState, processor_io_at_boot, processor_io_moved, processor_io_put_back, processor_io_raised, processor_io_triggered, keys_told}
-use Rattle.ds_ports.specs.declared.units.IoParts.{IoParts}
 use Rattle.gx_fifo.specs.GxStates.{GxState, gx_at_boot, gx_finished, gx_level, gx_swapped, is_half_empty, is_stalled}
 use Rattle.video2d.specs.Scans.{scan_due_tick}
 use Rattle.video2d.specs.Videos.{VideoState, unless_stop, video_after_event, video_at_boot, video_shown, video_stop}
 use Rattle.video2d.specs.declared.videos.Shown.{Shown}
 use Rattle.vram_banks.specs.Cells.{Banks, blank_banks}
-
 -- What stands behind the ports.
 
 -- the display; video memory with its controls; WRAMCNT, which shares out the shared work RAM (GBATEK, "DS Memory Control"); what passes between the
 -- processors; the keys that are pressed; the four words of DMA0FILL to DMA3FILL; the card; the divider and the square
 -- root unit; the geometry engine with what waits for it; the tick before which ARM9's DMA isn't due, which is the one after the geometry command that
 -- ended the last stall while that holds a channel back and no stall does, and else 0; and what each processor has of its own
-pub record IoState : Type 0 where
-  pub video : VideoState
-  pub vram : Banks
-  pub wramcnt : ℕ
-  pub ipc : IpcState
-  pub pressed : ℕ
-  pub fill : List ℕ
-  pub card : CardState
-  pub divider : DividerState
-  pub root : RootState
-  pub gx : GxState
-  pub released : ℕ
-  pub nine : ProcessorIoState
-  pub seven : ProcessorIoState
+pub use Rattle.ds_ports.specs.declared.units.IoParts.{IoParts as IoState}
 
 -- what WRAMCNT keeps at boot: ARM7 has all of the shared work RAM (our choice)
 abbrev pub wramcnt_at_boot : ℕ
@@ -64,24 +49,6 @@ io_at_boot = record {
   released = 0;
   nine = processor_io_at_boot Nine;
   seven = processor_io_at_boot Seven;
-}
-
--- the units by their parts
-abbrev pub io_of_parts : IoParts → IoState
-io_of_parts parts = record {
-  video = parts.video;
-  vram = parts.vram;
-  wramcnt = parts.wramcnt;
-  ipc = parts.ipc;
-  pressed = parts.pressed;
-  fill = parts.fill;
-  card = parts.card;
-  divider = parts.divider;
-  root = parts.root;
-  gx = parts.gx;
-  released = parts.released;
-  nine = parts.nine;
-  seven = parts.seven;
 }
 
 -- other banks of video memory, and another WRAMCNT

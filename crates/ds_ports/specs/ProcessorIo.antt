@@ -8,13 +8,14 @@ use Rattle.ds_dma.specs.States.{DmaState, any_runs, channel_written, dma_at_boot
 use Rattle.ds_dma.specs.declared.controls.Cause.{Cause}
 use Rattle.ds_dma.specs.declared.controls.DmaPort.{DmaPort}
 use Rattle.ds_timers.specs.Irqs.{IrqState, interrupts_of, irq_acked, irq_at_boot, irq_raised}
-use Rattle.ds_timers.specs.Timing.{TimerState, control_set, reload_set, timers_at_boot}
+use Rattle.ds_timers.specs.declared.timers.Timer.{Timer}
+use Rattle.ds_timers.specs.Timing.{control_set, reload_set, timers_at_boot}
 
 -- What each processor has of its own behind the ports: its interrupt words, its timers, KEYCNT, whether it is halted, and its DMA channels.
 
 pub record ProcessorIoState : Type 0 where
   pub irq : IrqState
-  pub timers : List TimerState
+  pub timers : List Timer
   pub keycnt : ℕ
   pub halted : Bool
   pub dma : DmaState

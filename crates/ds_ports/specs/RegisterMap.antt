@@ -1,10 +1,10 @@
-use Rattle.std.specs.Prelude.{ℕ, ◌≡◌, ◌<◌, ◌≤◌, ◌⊎◌, ◌+◌, ◌-◌, ◌*◌, ◌/◌, ◌%◌, ◌==◌, nat_le, nat_lt, ◌&&◌, if◌then◌else◌, List, [], ◌∷◌, ◌++◌, Option, Some, None}
+use Rattle.std.specs.Prelude.{ℕ, ◌≡◌, ◌<◌, ◌≤◌, ◌⊎◌, ◌+◌, ◌-◌, ◌*◌, ◌/◌, ◌%◌, ◌==◌, nat_le, nat_lt, ◌&&◌, if◌then◌else◌, List, map, [], ◌∷◌, ◌++◌, Option, Some, None}
 use Rattle.ds_base.specs.declared.processors.Proc.{Proc}
 use Rattle.ds_base.specs.declared.processors.Proc.TheVariants.{Nine, Seven}
 use Rattle.ds_ports.specs.declared.registers.Register.{Register}
 use Rattle.ds_ports.specs.declared.registers.Register.TheVariants.{DisplayHalf, DisplayWord, GxWord, GxCommand, Dmasad, Dmadad, Dmacnt, Dmafill, TmcntL, TmcntH, Keyinput, Keycnt, Extkeyin, Ipcsync, Ipcfifocnt, Ipcfifosend, Ipcfiforecv, Auxspicnt, CardWord, CardData, Ime, Ie, If, Vramcnt, Wramcnt, Vramstat, Wramstat, Divcnt, DivNumer, DivDenom, DivResult, DivremResult, Sqrtcnt, SqrtResult, SqrtParam, Postflg, Haltcnt}
 use Rattle.ds_ports.specs.declared.registers.Slot.{Slot}
-use Rattle.ds_ports.specs.Registers.{meaning_of}
+use Rattle.gx_fifo.specs.GxPorts.{GxPortRow, display_control_row, engine_rows}
 use Rattle.video2d.specs.DisplayRegisters.{control_registers, display_row, drawing_registers, engine_base, engine_registers, output_registers}
 use Rattle.video2d.specs.declared.display_registers.DisplayRegister.{DisplayRegister}
 use Rattle.video2d.specs.declared.display_registers.DisplayRegister.TheVariants.{Dispstat, Vcount, Powcnt1}
@@ -51,11 +51,9 @@ halves_by_offset offset count register = record (port_row offset 2 count registe
 abbrev pub words_by_offset : ℕ → ℕ → Register → PortRow
 words_by_offset offset count register = record (port_row offset 4 count register) { number = λ place. offset + 4 * place }
 
-abbrev pub gx_words : ℕ → ℕ → PortRow
-gx_words offset count = words_by_offset offset count GxWord
-
-abbrev pub gx_commands : ℕ → ℕ → PortRow
-gx_commands offset count = words_by_offset offset count GxCommand
+-- geometry's, by the rows of its own table
+abbrev pub gx_row : GxPortRow → PortRow
+gx_row row = words_by_offset row.first row.words (if row.takes_commands then GxCommand else GxWord)
 
 -- so many times two registers, or three, in turn
 abbrev pub two_in_turn : ℕ → ℕ → ℕ → Register → Register → PortRow
@@ -91,7 +89,7 @@ drawing_rows Nine = display_ports (engine_base A) drawing_registers
 drawing_rows Seven = []
 
 abbrev pub gx_control_rows : Proc → List PortRow
-gx_control_rows Nine = gx_words 0x060 1 ∷ []  -- DISP3DCNT
+gx_control_rows Nine = gx_row display_control_row ∷ []  -- DISP3DCNT
 gx_control_rows Seven = []
 
 abbrev pub output_rows : Proc → List PortRow
@@ -164,16 +162,7 @@ power_rows Nine = display_ports 0 (Powcnt1 ∷ [])
 power_rows Seven = port_row 0x301 1 1 Haltcnt ∷ []  -- HALTCNT
 
 abbrev pub geometry_rows : Proc → List PortRow
-geometry_rows Nine =
-    gx_commands 0x400 16  -- GXFIFO
-    ∷ gx_commands 0x440 112  -- MTX_MODE to VEC_TEST, the geometry commands
-    ∷ gx_words 0x600 1  -- GXSTAT
-    ∷ gx_words 0x604 1  -- RAM_COUNT
-    ∷ gx_words 0x620 4  -- POS_RESULT
-    ∷ gx_words 0x630 2  -- VEC_RESULT, three halves
-    ∷ gx_words 0x640 16  -- CLIPMTX_RESULT
-    ∷ gx_words 0x680 9  -- VECMTX_RESULT
-    ∷ []
+geometry_rows Nine = map gx_row engine_rows  -- GXFIFO to VECMTX_RESULT
 geometry_rows Seven = []
 
 abbrev pub second_engine_rows : Proc → List PortRow
@@ -218,9 +207,32 @@ slot_by (r ∷ rows) at = if nat_le r.offset at && nat_lt at (r.offset + row_byt
 unfoldable pub slot_of : Proc → ℕ → Option Slot
 slot_of proc at = slot_by (register_map proc) at
 
+-- registers of one name are told apart by a number below this: from 0 on, or by the offset of the first byte of the display's, geometry's and the
+-- card's
+abbrev pub numbers_of : Register → ℕ
+numbers_of DisplayHalf = 0x1070
+numbers_of DisplayWord = 0x1070
+numbers_of GxWord = 0x6A4
+numbers_of GxCommand = 0x6A4
+numbers_of Dmasad = 4
+numbers_of Dmadad = 4
+numbers_of Dmacnt = 4
+numbers_of Dmafill = 4
+numbers_of TmcntL = 4
+numbers_of TmcntH = 4
+numbers_of Auxspicnt = 0x1B0
+numbers_of CardWord = 0x1B0
+numbers_of Vramcnt = 9
+numbers_of DivNumer = 2
+numbers_of DivDenom = 2
+numbers_of DivResult = 2
+numbers_of DivremResult = 2
+numbers_of SqrtParam = 2
+numbers_of _ = 1
+
 -- what holds of each byte of a register
 pub record IsSlot (s : Slot) : Type 0 where
-  pub number : s.number < (meaning_of s.register).count
+  pub number : s.number < numbers_of s.register
   pub byte : s.byte < s.bytes
   pub bytes : s.bytes ≤ 4
 

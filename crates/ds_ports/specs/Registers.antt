@@ -32,8 +32,6 @@ use Rattle.vram_banks.specs.Cells.{allotted_of}
 -- What each register is, a paragraph each, in the order of GBATEK's list ("DS I/O Maps").
 
 pub record RegisterMeaning : Type 0 where
-  -- those of its name are told apart by a number below this: from 0 on, or the offset of the first byte where it is the display's or geometry's
-  pub count : ℕ
   -- it is reached by whole words alone: narrower reads give 0, and narrower writes are ignored (our choice)
   pub takes_words : Bool
   -- what it reads, for a processor at a tick
@@ -52,7 +50,6 @@ pub record RegisterMeaning : Type 0 where
 -- one that reads 0, keeps nothing, and ignores writes
 abbrev pub idle : RegisterMeaning
 idle = record {
-  count = 1;
   takes_words = false;
   value = λ proc now u n. 0;
   kept = λ proc u n. 0;
@@ -90,7 +87,6 @@ abbrev pub channel_register : DmaPort → RegisterMeaning
 channel_register port = record
     (plain_of_processor (λ processor_io n. channel_word port (channel_at processor_io.dma.channels n))
     (λ proc now pressed processor_io n word. dma_written processor_io now port n word)) {
-      count = 4;
       refusal = λ proc u n word. channel_refusal (io_of u proc).dma.proc n port word (channel_at (io_of u proc).dma.channels n);
     }
 
@@ -121,7 +117,6 @@ card_set width proc now u n word = record u { card = card_written u.card proc n 
 
 abbrev pub card_register : Width → RegisterMeaning
 card_register width = record idle {
-  count = 0x1B0;
   value = λ proc now u n. card_value u.card proc n width;
   kept = λ proc u n. card_kept u.card proc n width;
   written = card_set width;
@@ -163,7 +158,6 @@ halt_refusal value = if is_mode_left_out value then Some (record { kind = HaltMo
 -- byte by byte where the display is
 abbrev pub display_register : Width → RegisterMeaning
 display_register width = record idle {
-  count = 0x1070;
   value = λ proc now u n. value_by width (video_byte proc u.video) n;
   kept = λ proc u n. value_by width (kept_byte proc u.video) n;
   written = λ proc now u n word. record u { video = video_written proc u.video n width word };
@@ -177,7 +171,6 @@ gx_set Seven now u n word = u
 
 abbrev pub gx_register : Bool → RegisterMeaning
 gx_register takes_words = record idle {
-  count = 0x6A4;
   takes_words = takes_words;
   value = λ proc now u n. gx_word u.gx n;
   kept = λ proc u n. gx_kept u.gx n;
@@ -195,18 +188,16 @@ meaning_of Dmasad = channel_register Source
 meaning_of Dmadad = channel_register Target
 meaning_of Dmacnt = channel_register Control
 -- DMA0FILL to DMA3FILL (the same chapter)
-meaning_of Dmafill = record (plain (λ u n. slice_index_or u.fill n 0) (λ u now n word. record u { fill = slice_set u.fill n word })) { count = 4 }
+meaning_of Dmafill = plain (λ u n. slice_index_or u.fill n 0) (λ u now n word. record u { fill = slice_set u.fill n word })
 -- TM0CNT_L to TM3CNT_L: a timer's counter, which is written as its reload (GBATEK, "DS Timers")
 meaning_of TmcntL = record
     (plain_of_processor (λ processor_io n. (timer_at processor_io.timers n).reload)
     (λ proc now pressed processor_io n word. reload_written processor_io n (word % 2 ^ 16))) {
-      count = 4;
       value = λ proc now u n. counter_of (timer_at (io_of u proc).timers n) now;
     }
 -- TM0CNT_H to TM3CNT_H: its control (the same chapter)
-meaning_of TmcntH = record
-    (plain_of_processor (λ processor_io n. (timer_at processor_io.timers n).control)
-    (λ proc now pressed processor_io n word. control_written processor_io n (word % 2 ^ 16) now)) { count = 4 }
+meaning_of TmcntH = plain_of_processor (λ processor_io n. (timer_at processor_io.timers n).control)
+    (λ proc now pressed processor_io n word. control_written processor_io n (word % 2 ^ 16) now)
 -- KEYINPUT, KEYCNT and EXTKEYIN (GBATEK, "DS Keypad")
 meaning_of Keyinput = read_only (λ u. keyinput_word u.pressed)
 meaning_of Keycnt = plain_of_processor (λ processor_io n. processor_io.keycnt)
@@ -250,7 +241,7 @@ meaning_of If = record idle {
   written = on_own (λ proc now pressed processor_io n word. if_written processor_io word);
 }
 -- VRAMCNT_A to VRAMCNT_I (GBATEK, "DS Memory Control - VRAM")
-meaning_of Vramcnt = record (write_only (λ proc now u n word. bank_set u n (word % 2 ^ 8))) { count = 9 }
+meaning_of Vramcnt = write_only (λ proc now u n word. bank_set u n (word % 2 ^ 8))
 -- WRAMCNT: bits 0 and 1 are kept (GBATEK, "DS Memory Control - WRAM")
 meaning_of Wramcnt = plain (λ u n. u.wramcnt) (λ u now n word. record u { wramcnt = word % 2 ^ 2 })
 -- VRAMSTAT: C and D as they are mapped to ARM7 (GBATEK, "DS Memory Control - VRAM")
@@ -263,12 +254,12 @@ meaning_of Divcnt = record idle {
   kept = λ proc u n. u.divider.mode;
   written = λ proc now u n word. division_set u now (word % 2 ^ 2) u.divider.numerator u.divider.denominator;
 }
-meaning_of DivNumer = record (plain (λ u n. word_of_two n u.divider.numerator)
-    (λ u now n word. division_set u now u.divider.mode (with_word_of_two n u.divider.numerator word) u.divider.denominator)) { count = 2 }
-meaning_of DivDenom = record (plain (λ u n. word_of_two n u.divider.denominator)
-    (λ u now n word. division_set u now u.divider.mode u.divider.numerator (with_word_of_two n u.divider.denominator word))) { count = 2 }
-meaning_of DivResult = record idle { count = 2; value = λ proc now u n. word_of_two n u.divider.quotient }
-meaning_of DivremResult = record idle { count = 2; value = λ proc now u n. word_of_two n u.divider.remainder }
+meaning_of DivNumer = plain (λ u n. word_of_two n u.divider.numerator)
+    (λ u now n word. division_set u now u.divider.mode (with_word_of_two n u.divider.numerator word) u.divider.denominator)
+meaning_of DivDenom = plain (λ u n. word_of_two n u.divider.denominator)
+    (λ u now n word. division_set u now u.divider.mode u.divider.numerator (with_word_of_two n u.divider.denominator word))
+meaning_of DivResult = record idle { value = λ proc now u n. word_of_two n u.divider.quotient }
+meaning_of DivremResult = record idle { value = λ proc now u n. word_of_two n u.divider.remainder }
 -- SQRTCNT, SQRT_RESULT, and SQRT_PARAM, its low and its high word (the same chapter)
 meaning_of Sqrtcnt = record idle {
   value = λ proc now u n. sqrtcnt_word u.root;
@@ -276,8 +267,8 @@ meaning_of Sqrtcnt = record idle {
   written = λ proc now u n word. root_set u now (bit 0 word) u.root.value;
 }
 meaning_of SqrtResult = read_only (λ u. u.root.root)
-meaning_of SqrtParam = record (plain (λ u n. word_of_two n u.root.value)
-    (λ u now n word. root_set u now u.root.wide (with_word_of_two n u.root.value word))) { count = 2 }
+meaning_of SqrtParam = plain (λ u n. word_of_two n u.root.value)
+    (λ u now n word. root_set u now u.root.wide (with_word_of_two n u.root.value word))
 -- POSTFLG: the boot is over (GBATEK, "DS Power Control"; that nothing else is kept is our choice)
 meaning_of Postflg = read_only (λ u. 1)
 -- HALTCNT (the same chapter)

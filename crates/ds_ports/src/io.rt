@@ -16,8 +16,9 @@ ghost use Rattle.ds_ports.specs.Inside.{is_of_geometry, moves_dues};
 ghost use Rattle.ds_ports.specs.ProcessorIo.{before_move};
 ghost use Rattle.ds_ports.specs.Registers.{after_write, card_word_taken, meaning_of, word_received, word_sent};
 ghost use Rattle.ds_ports.specs.declared.registers.Register.TheVariants.{GxCommand};
-ghost use Rattle.ds_ports.specs.Io.{channel_moved, channel_put_back, geometry_swapped, io_at_boot, io_event, io_of, io_of_parts, is_settled, keys_pressed, settled, video_done, with_halted};
+ghost use Rattle.ds_ports.specs.Io.{channel_moved, channel_put_back, geometry_swapped, io_at_boot, io_event, io_of, is_settled, keys_pressed, settled, video_done, with_halted};
 ghost use Rattle.video2d.specs.Videos.{video_answer};
+ghost use Rattle.ds_ports.specs.RegisterMap.{numbers_of};
 
 use crate::processor_io::Before;
 use crate::registers::Register;
@@ -112,7 +113,7 @@ impl Io {
     pub fn of(parts: IoParts) -> Io
         requires wramcnt { parts.wramcnt < 4 }
         requires pressed { parts.pressed < 2 ^ 12 }
-        ensures { result ≡ io_of_parts parts }
+        ensures { result ≡ parts }
     {
         let units = Units::of(parts);
         let first = units.find_acting();
@@ -310,7 +311,7 @@ impl Io {
         number: u32,
         value: u32,
     )
-        requires number { number < (meaning_of register).count }
+        requires number { number < numbers_of register }
         requires early { IsEarly (Some now) }
         requires room { is_overfull proc self.old ≡ false }
         ensures { self.new ≡ after_write proc now self.old register number value }
@@ -363,7 +364,7 @@ impl Io {
     #[inline(never)]
     #[tactic(auto, using(crate::proofs::Silent::geometry_written_moves_none, crate::proofs::Silent::geometry_written_settles_none))]
     fn write_moving(&mut self, proc: Proc, now: Tick, register: Register, number: u32, value: u32)
-        requires number { number < (meaning_of register).count }
+        requires number { number < numbers_of register }
         requires early { IsEarly (Some now) }
         requires room { is_overfull proc self.old ≡ false }
         ensures { self.new ≡ after_write proc now self.old register number value }

@@ -4,7 +4,7 @@ ghost use Rattle.std.specs.Prelude.{◌≡◌, ◌<◌, ◌≤◌, ◌+◌, ◌/
 ghost use Rattle.ds_base.specs.Bits.{flag};
 ghost use Rattle.ds_base.specs.Schedules.{IsEarly};
 ghost use Rattle.ds_dma.specs.Channels.{channel_refusal, channel_word, unit_of};
-ghost use Rattle.ds_dma.specs.States.{channel_at, channel_due, dma_due, due_channel, most_waits, awaits_geometry};
+ghost use Rattle.ds_dma.specs.States.{channel_at, channel_due, dma_due, due_channel, last_tick, most_waits, awaits_geometry};
 ghost use Rattle.ds_dma.specs.declared.controls.Cause.TheVariants.{Card};
 ghost use Rattle.ds_dma.specs.declared.controls.DmaPort.TheVariants.{Control};
 ghost use Rattle.ds_runs.specs.OrderLaws.{first_from};
@@ -15,7 +15,7 @@ ghost use Rattle.ds_ports.specs.HappeningLaws.{IsProcessorIo};
 ghost use Rattle.ds_ports.specs.Inside.{own_written};
 ghost use Rattle.ds_ports.specs.Io.{channel_comes_before, triggered_if};
 ghost use Rattle.ds_ports.specs.ProcessorIo.{before_move, control_written, dma_written, extkeyin_word, haltcnt_written, ie_written, if_written, ime_written, blocks_processor, keycnt_written, keyinput_word, keys_hold, keys_told, processor_io_at_boot, processor_io_moved, processor_io_put_back, processor_io_raised, processor_io_triggered, reload_written};
-ghost use Rattle.ds_ports.specs.Registers.{meaning_of};
+ghost use Rattle.ds_ports.specs.RegisterMap.{numbers_of};
 
 use crate::registers::Register;
 use ds_base::{Due, Interrupt, Proc, Stop, Tick, known};
@@ -469,7 +469,8 @@ impl ProcessorIo {
 
     /// The last unit that a DMA channel of it moved, if one did.
     pub fn last_unit(&self) -> Option<LastUnit>
-        ensures { result ≡ self.now.dma.last }
+        ensures value { result ≡ self.now.dma.last }
+        ensures early { IsEarly (last_tick result) }
     {
         self.dma.last_unit()
     }
@@ -528,7 +529,7 @@ impl ProcessorIo {
         number: u32,
         value: u32,
     )
-        requires number { number < (meaning_of register).count }
+        requires number { number < numbers_of register }
         requires early { IsEarly (Some now) }
         ensures { self.new ≡ own_written register proc now pressed self.old number value }
     {

@@ -8,7 +8,7 @@ ghost use Rattle.ds_base.specs.Schedules.{IsEarly};
 ghost use Rattle.gx_geometry.specs.States.{AreListsSince};
 ghost use Rattle.vram_banks.specs.Cells.{vram_written};
 ghost use Rattle.ds_ports.specs.HappeningLaws.{IsIo};
-ghost use Rattle.ds_ports.specs.Io.{both_raised, geometry_swapped, io_at_boot, io_of, io_of_parts, is_held, keys_pressed, with_halted};
+ghost use Rattle.ds_ports.specs.Io.{both_raised, geometry_swapped, io_at_boot, io_of, is_held, keys_pressed, with_halted};
 
 mod dues;
 mod events;
@@ -119,7 +119,7 @@ impl Units {
     pub fn of(parts: IoParts) -> Units
         requires wramcnt { parts.wramcnt < 4 }
         requires pressed { parts.pressed < 2 ^ 12 }
-        ensures { result ≡ io_of_parts parts }
+        ensures { result ≡ parts }
     {
         let fill = parts.fill;
         Units {

@@ -9,7 +9,8 @@ use Rattle.ds_state.proofs.Exact.{one_spelling, round_trips}
 use Rattle.ds_state.proofs.Kept.{kept_twice}
 use Rattle.ds_timers.specs.Irqs.{IrqState, IsIrq, events, interrupts_of, irq_levelled, level, shares_bit}
 use Rattle.ds_timers.specs.Saved.{IrqsAreSaved, IsAnchoredAt, TimersAreSaved, anchor_number, anchors_by, flags_by, irq_format, irq_format_by, timer_format, timers_format}
-use Rattle.ds_timers.specs.Timing.{AreTimers, IsTimer, TimerState, full, pace, runs_free, timer_at}
+use Rattle.ds_timers.specs.declared.timers.Timer.{Timer}
+use Rattle.ds_timers.specs.Timing.{AreTimers, IsTimer, full, pace, runs_free, timer_at}
 
 -- What the interrupt words and the timers owe of their formats.
 
@@ -66,7 +67,7 @@ since_again : (since : Option Tick) (free : Bool) → is_some since ≡ free →
 since_again None free e = rw (← e) refl
 since_again (Some since) free e = rw (← e) refl
 
-timer_stands : (which at : ℕ) (t : TimerState) → at ≤ 2 ^ 56 → IsTimer which t → IsAnchoredAt at t → StandsFor (timer_format which) at t
+timer_stands : (which at : ℕ) (t : Timer) → at ≤ 2 ^ 56 → IsTimer which t → IsAnchoredAt at t → StandsFor (timer_format which) at t
 unfolding timer_format
 timer_stands which at t early is anchored =
     let fits = since_fits t.since at early anchored.0 in
@@ -76,7 +77,7 @@ timer_stands which at t early is anchored =
     (search rules, rw again refl)
 
 -- four are these four
-four_are : (timers : List TimerState) → length timers ≡ 4 → timer_at timers 0 ∷ timer_at timers 1 ∷ timer_at timers 2 ∷ timer_at timers 3 ∷ [] ≡ timers
+four_are : (timers : List Timer) → length timers ≡ 4 → timer_at timers 0 ∷ timer_at timers 1 ∷ timer_at timers 2 ∷ timer_at timers 3 ∷ [] ≡ timers
 four_are [] h = absurd (omega (arith, h))
 four_are (a ∷ []) h = absurd (omega (arith, h))
 four_are (a ∷ b ∷ []) h = absurd (omega (arith, h))
@@ -84,7 +85,7 @@ four_are (a ∷ b ∷ c ∷ []) h = absurd (omega (arith, h))
 four_are (a ∷ b ∷ c ∷ d ∷ []) h = refl
 four_are (a ∷ b ∷ c ∷ d ∷ e ∷ rest) h = absurd (omega (arith, h))
 
-pub timers_stand : (at : ℕ) (timers : List TimerState) → at ≤ 2 ^ 56 → AreTimers timers → ((which : ℕ) → which < 4 → IsAnchoredAt at (timer_at timers which))
+pub timers_stand : (at : ℕ) (timers : List Timer) → at ≤ 2 ^ 56 → AreTimers timers → ((which : ℕ) → which < 4 → IsAnchoredAt at (timer_at timers which))
     → StandsFor timers_format at timers
 unfolding timers_format
 timers_stand at timers early are anchored =

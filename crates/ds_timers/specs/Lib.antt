@@ -1,4 +1,3 @@
 pub mod Irqs
-pub mod TimersKept
 pub mod Saved
 pub mod Timing

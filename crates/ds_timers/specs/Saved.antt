@@ -5,7 +5,8 @@ use Rattle.ds_base.specs.declared.ticks.Tick.{Tick}
 use Rattle.ds_state.specs.Formats.{Format, number_code, flag_code, done, ◌>>=◌, one_field, its, any, keeps_mask, bytes_written}
 use Rattle.ds_state.specs.FormatLaws.{OneSpelling, RoundTrips}
 use Rattle.ds_timers.specs.Irqs.{IrqState, IsIrq, events, interrupts_of, irq_levelled, level, shares_bit}
-use Rattle.ds_timers.specs.Timing.{AreTimers, TimerState, pace, runs_free, timer_at, timer_due}
+use Rattle.ds_timers.specs.declared.timers.Timer.{Timer}
+use Rattle.ds_timers.specs.Timing.{AreTimers, pace, runs_free, timer_at, timer_due}
 
 -- The interrupt words and the timers in bytes (our choice of form).
 
@@ -44,7 +45,7 @@ anchors_by free control count at number = if free then nat_le number at && nat_l
 abbrev pub anchors : ℕ → ℕ → ℕ → ℕ → ℕ → Bool
 anchors which control count at number = anchors_by (runs_free which control) control count at number
 
-unfoldable pub timer_format : ℕ → Format TimerState TimerState
+unfoldable pub timer_format : ℕ → Format Timer Timer
 timer_format which = do
   reload ← one_field (number_code 2) (λ t. t.reload) any
   control ← one_field (number_code 1) (λ t. t.control) (keeps_mask 0xC7)
@@ -52,7 +53,7 @@ timer_format which = do
   since ← one_field (number_code 8) (λ t. anchor_number t.since) (anchors which control count)
   done (record { control = control; reload = reload; count = count; since = numbered_anchor which control since })
 
-unfoldable pub timers_format : Format (List TimerState) (List TimerState)
+unfoldable pub timers_format : Format (List Timer) (List Timer)
 timers_format = do
   zero ← its (timer_format 0) (λ timers. timer_at timers 0)
   one ← its (timer_format 1) (λ timers. timer_at timers 1)
@@ -61,7 +62,7 @@ timers_format = do
   done (zero ∷ one ∷ two ∷ three ∷ [])
 
 -- a timer at a tick: its anchor isn't later, and it isn't due earlier
-abbrev pub IsAnchoredAt : ℕ → TimerState → Type 0
+abbrev pub IsAnchoredAt : ℕ → Timer → Type 0
 IsAnchoredAt at t = IfSome t.since (λ since. since.0 ≤ at) × IfSome (timer_due t) (λ due. at ≤ due.0)
 
 -- Their bytes are read as they were, and bytes that are read are theirs. Interrupt words are read as they were but for the geometry FIFO's bit,
@@ -79,6 +80,6 @@ pub record IrqsAreSaved : Type 0 where
   pub spelling_by : (proc : Proc) (asleep : Bool) (at : ℕ) → OneSpelling (irq_format_by proc asleep) at
 
 pub record TimersAreSaved : Type 0 where
-  pub back : (at : ℕ) (timers : List TimerState) → at ≤ 2 ^ 56 → AreTimers timers
+  pub back : (at : ℕ) (timers : List Timer) → at ≤ 2 ^ 56 → AreTimers timers
       → ((which : ℕ) → which < 4 → IsAnchoredAt at (timer_at timers which)) → RoundTrips timers_format at timers
   pub spelling : (at : ℕ) → OneSpelling timers_format at

@@ -5,7 +5,6 @@ ghost use Rattle.std.specs.Prelude.{◌≡◌, ◌<◌, ◌≤◌, ◌^◌, ℕ,
 ghost use Rattle.ds_base.specs.Interrupts.{interrupt_bit};
 ghost use Rattle.ds_base.specs.Schedules.{IsEarly, IsLater, Reschedules};
 ghost use Rattle.ds_base.specs.declared.ticks.Tick.{Tick};
-ghost use Rattle.ds_timers.specs.TimersKept.{timer_seen};
 ghost use Rattle.ds_timers.specs.Timing.{AreTimers, ChangesControl, CountsFrom, IsTimer, SchedulesOne, timers_at_boot, timer_at, kept_control, pace, runs, raises, counts_up, runs_free, counter_of, timer_due, timer_interrupt, is_start, controlled, reload_set, control_set, carries, overflows, after_overflow, overflow_bit, overflow_of};
 
 mod saved;
@@ -40,15 +39,15 @@ pub struct Timers {
 }
 
 impl Model for Timers {
-    ghost use Rattle.std.specs.Prelude.{List, map};
-    ghost use Rattle.ds_timers.specs.TimersKept.{timer_seen};
-    ghost use Rattle.ds_timers.specs.Timing.{AreEarly, AreTimers, TimerState};
+    ghost use Rattle.std.specs.Prelude.{List};
+    ghost use Rattle.ds_timers.specs.declared.timers.Timer.{Timer};
+    ghost use Rattle.ds_timers.specs.Timing.{AreEarly, AreTimers};
 
-    ghost Value = { List TimerState };
+    ghost Value = { List Timer };
 
-    ghost view = { λ t. map timer_seen t.timers };
+    ghost view = { λ t. t.timers };
 
-    ghost invariant = { λ t. AreTimers (map timer_seen t.timers) × AreEarly (map timer_seen t.timers) };
+    ghost invariant = { λ t. AreTimers t.timers × AreEarly t.timers };
 }
 
 fn ticks(control: u16) -> u64
@@ -90,7 +89,7 @@ fn goes_alone(which: u8, control: u16) -> bool
 
 fn counter(timer: Timer, now: Tick) -> u16
     requires { timer.count < 2 ^ 16 }
-    ensures { result ≡ counter_of (timer_seen timer) now }
+    ensures { result ≡ counter_of timer now }
 {
     match timer.since {
         None => timer.count,
@@ -103,7 +102,7 @@ fn counter(timer: Timer, now: Tick) -> u16
 
 fn due(timer: Timer) -> Option<Tick>
     requires { IsEarly timer.since }
-    ensures { result ≡ timer_due (timer_seen timer) }
+    ensures { result ≡ timer_due timer }
 {
     match timer.since {
         None => None,
@@ -120,7 +119,7 @@ fn anchor(taken: bool, now: Tick) -> Option<Tick>
 
 /// A timer after a write of its control.
 fn with_control(which: u8, timer: Timer, control: u16, now: Tick) -> Timer
-    ensures { timer_seen result ≡ controlled which (timer_seen timer) control now }
+    ensures { result ≡ controlled which timer control now }
 {
     let alone = goes_alone(which, control);
     if is_on(control) && !is_on(timer.control) {
@@ -146,9 +145,9 @@ fn with_control(which: u8, timer: Timer, control: u16, now: Tick) -> Timer
 fn passed(which: u8, i: u8, before: bool, timer: Timer) -> After
     requires i { i < 4 }
     requires early { IsEarly timer.since }
-    ensures value { timer_seen result.timer ≡ after_overflow which i before (timer_seen timer) }
-    ensures overflows { result.overflows ≡ overflows which i before (timer_seen timer) }
-    ensures bits { result.bits ≡ overflow_bit which i before (timer_seen timer) }
+    ensures value { result.timer ≡ after_overflow which i before timer }
+    ensures overflows { result.overflows ≡ overflows which i before timer }
+    ensures bits { result.bits ≡ overflow_bit which i before timer }
     ensures within { result.bits ≤ 64 }
 {
     let carries = before && is_on(timer.control) && goes_with(i, timer.control);
@@ -212,8 +211,8 @@ impl Timers {
     /// A timer as it is kept.
     fn timer(&self, which: u8) -> Timer
         requires { which < 4 }
-        ensures seen { timer_seen result ≡ timer_at self.now which }
-        ensures is { IsTimer which (timer_seen result) }
+        ensures seen { result ≡ timer_at self.now which }
+        ensures is { IsTimer which result }
         ensures early { IsEarly result.since }
     {
         self.timers[which as usize]
@@ -222,9 +221,9 @@ impl Timers {
     /// Another timer in its place.
     fn put(&mut self, which: u8, timer: Timer)
         requires which { which < 4 }
-        requires is { IsTimer which (timer_seen timer) }
+        requires is { IsTimer which timer }
         requires early { IsEarly timer.since }
-        ensures { self.new ≡ slice_set self.old which (timer_seen timer) }
+        ensures { self.new ≡ slice_set self.old which timer }
     {
         self.timers[which as usize] = timer;
     }

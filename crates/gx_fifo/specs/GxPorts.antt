@@ -1,29 +1,35 @@
-use Rattle.std.specs.Prelude.{ℕ, ◌+◌, ◌-◌, ◌*◌, ◌/◌, nat_lt, nat_le, ◌&&◌, if◌then◌else◌, Bool, List, [], ◌∷◌}
+use Rattle.std.specs.Prelude.{ℕ, ◌+◌, ◌-◌, ◌*◌, ◌/◌, nat_lt, nat_le, ◌&&◌, if◌then◌else◌, Bool, true, false, List, [], ◌∷◌}
 use Rattle.gx_fifo.specs.declared.ports.GxPort.{GxPort}
 use Rattle.gx_fifo.specs.declared.ports.GxPort.TheVariants.{Display, Fifo, Direct, Status, Lengths, Position, Vector, Clip, VectorMatrix, Unlisted}
 
 -- The geometry engine's ports, by the offset from 4000000h (GBATEK, "DS I/O Maps", "3D Display Engine" and "3D Geometry Engine"): the first word's
--- offset, how many words there are, and which port word i is.
+-- offset, how many words there are, whether they take commands, and which port word i is.
 pub record GxPortRow : Type 0 where
   pub first : ℕ
   pub words : ℕ
+  pub takes_commands : Bool
   pub port : ℕ → GxPort
 
-abbrev pub gx_port_row : ℕ → ℕ → (ℕ → GxPort) → GxPortRow
-gx_port_row first words port = record { first = first; words = words; port = port }
+abbrev pub gx_port_row : ℕ → ℕ → Bool → (ℕ → GxPort) → GxPortRow
+gx_port_row first words takes_commands port = record { first = first; words = words; takes_commands = takes_commands; port = port }
+
+abbrev pub display_control_row : GxPortRow
+display_control_row = gx_port_row 0x060 1 false (λ i. Display)  -- DISP3DCNT
+
+abbrev pub engine_rows : List GxPortRow
+engine_rows =
+    gx_port_row 0x400 16 true (λ i. Fifo)  -- GXFIFO
+    ∷ gx_port_row 0x440 112 true (λ i. Direct (0x10 + i))  -- MTX_MODE to VEC_TEST, each command's own port
+    ∷ gx_port_row 0x600 1 false (λ i. Status)  -- GXSTAT
+    ∷ gx_port_row 0x604 1 false (λ i. Lengths)  -- RAM_COUNT
+    ∷ gx_port_row 0x620 4 false (λ i. Position i)  -- POS_RESULT
+    ∷ gx_port_row 0x630 2 false (λ i. Vector i)  -- VEC_RESULT, three halves
+    ∷ gx_port_row 0x640 16 false (λ i. Clip i)  -- CLIPMTX_RESULT
+    ∷ gx_port_row 0x680 9 false (λ i. VectorMatrix i)  -- VECMTX_RESULT
+    ∷ []
 
 abbrev pub gx_ports : List GxPortRow
-gx_ports =
-    gx_port_row 0x060 1 (λ i. Display)  -- DISP3DCNT
-    ∷ gx_port_row 0x400 16 (λ i. Fifo)  -- GXFIFO
-    ∷ gx_port_row 0x440 112 (λ i. Direct (0x10 + i))  -- MTX_MODE and on, each command's own port
-    ∷ gx_port_row 0x600 1 (λ i. Status)  -- GXSTAT
-    ∷ gx_port_row 0x604 1 (λ i. Lengths)  -- RAM_COUNT
-    ∷ gx_port_row 0x620 4 (λ i. Position i)  -- POS_RESULT
-    ∷ gx_port_row 0x630 2 (λ i. Vector i)  -- VEC_RESULT
-    ∷ gx_port_row 0x640 16 (λ i. Clip i)  -- CLIPMTX_RESULT
-    ∷ gx_port_row 0x680 9 (λ i. VectorMatrix i)  -- VECMTX_RESULT
-    ∷ []
+gx_ports = display_control_row ∷ engine_rows
 
 abbrev pub covers_offset : GxPortRow → ℕ → Bool
 covers_offset r at = nat_le r.first at && nat_lt at (r.first + 4 * r.words)

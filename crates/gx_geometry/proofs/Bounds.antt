@@ -1,7 +1,8 @@
 use Rattle.std.proofs.Common.{ℕ, ℤ, zero, suc, ◌≡◌, ◌<◌, ◌≤◌, ◌+◌, ◌^◌, Bool, true, false, List, [], ◌∷◌, ◌++◌, Option, Some, None, refl, sym, subst, arith}
 use Rattle.std.specs.Prelude.{if◌then◌else◌, slice_index, slice_index_or, slice_set}
 use Rattle.ds_base.specs.Bits.{bits, bit}
-use Rattle.gx_geometry.specs.Records.{LightState, NumbersState}
+use Rattle.gx_geometry.specs.declared.numbers.Light.{Light}
+use Rattle.gx_geometry.specs.declared.numbers.Numbers.{Numbers}
 use Rattle.gx_geometry.specs.declared.polygons.Vertex.{Vertex}
 use Rattle.gx_geometry.specs.declared.polygons.Polygon.{Polygon}
 use Rattle.gx_matrix.specs.Commands.{commanded}
@@ -16,16 +17,16 @@ use Rattle.gx_geometry.specs.BoundLaws.{is_shaped, AreSmall, AreLimited, HaveCol
 
 -- Commands keep colours to fifteen bits and palettes to thirteen, and add at most one vertex to a run.
 
-pub record Goes (s t : NumbersState) : Type 0 where
+pub record Goes (s t : Numbers) : Type 0 where
   pub run : t.run ≤ s.run + 1
   pub small : AreSmall s → AreSmall t
 
-goes_if : (b : Bool) (s t u : NumbersState) → Goes s t → Goes s u → Goes s (if b then t else u)
+goes_if : (b : Bool) (s t u : Numbers) → Goes s t → Goes s u → Goes s (if b then t else u)
 goes_if true s t u p q = p
 goes_if false s t u p q = q
 
 -- a light's colour after one light was changed
-changed_light : (lights : List LightState) (n : ℕ) (light : LightState) → light.colour < 2 ^ 15 → ((i : ℕ) → (slice_index_or lights i no_light).colour < 2 ^ 15) →
+changed_light : (lights : List Light) (n : ℕ) (light : Light) → light.colour < 2 ^ 15 → ((i : ℕ) → (slice_index_or lights i no_light).colour < 2 ^ 15) →
     (i : ℕ) → (slice_index_or (slice_set lights n light) i no_light).colour < 2 ^ 15
 changed_light [] n light small old i = old i
 changed_light (l ∷ ls) zero light small old zero = small
@@ -33,11 +34,11 @@ changed_light (l ∷ ls) zero light small old (suc i) = old (suc i)
 changed_light (l ∷ ls) (suc n) light small old zero = old zero
 changed_light (l ∷ ls) (suc n) light small old (suc i) = changed_light ls n light small (λ j. old (suc j)) i
 
-channel_small : (s : NumbersState) (n : List ℤ) (k : ℕ) → lit_channel s n k ≤ 31
+channel_small : (s : Numbers) (n : List ℤ) (k : ℕ) → lit_channel s n k ≤ 31
 unfolding lit_channel
 channel_small s n k = omega arith
 
-lit_small : (s : NumbersState) (n : List ℤ) → lit_colour s n < 2 ^ 15
+lit_small : (s : Numbers) (n : List ℤ) → lit_colour s n < 2 ^ 15
 unfolding lit_colour
 lit_small s n = omega (arith, channel_small s n 0, channel_small s n 1, channel_small s n 2)
 
@@ -45,42 +46,42 @@ colour_if : (b : Bool) (m n : ℕ) → m < 2 ^ 15 → n < 2 ^ 15 → (if b then 
 colour_if true m n p q = p
 colour_if false m n p q = q
 
-normal_goes : (word : ℕ) (s : NumbersState) → Goes s (normal_given word s)
+normal_goes : (word : ℕ) (s : Numbers) → Goes s (normal_given word s)
 unfolding normal_given
 normal_goes word s = record {
   run = omega arith;
   small = λ h. record { colour = lit_small s (turned word s.stacks.pose.vector); diffuse = h.diffuse; ambient = h.ambient; specular = h.specular; emission = h.emission; lights = h.lights; palette = h.palette };
 }
 
-coordinates_go : (word : ℕ) (s : NumbersState) → Goes s (coordinates_given word s)
+coordinates_go : (word : ℕ) (s : Numbers) → Goes s (coordinates_given word s)
 unfolding coordinates_given
 coordinates_go word s = record {
   run = omega arith;
   small = λ h. record { colour = h.colour; diffuse = h.diffuse; ambient = h.ambient; specular = h.specular; emission = h.emission; lights = h.lights; palette = h.palette };
 }
 
-vertex_goes : (command : GeometryCommand) (params : List ℕ) (s : NumbersState) → Goes s (vertex_given command params s)
+vertex_goes : (command : GeometryCommand) (params : List ℕ) (s : Numbers) → Goes s (vertex_given command params s)
 unfolding vertex_given
 vertex_goes command params s = record {
   run = omega arith;
   small = λ h. record { colour = h.colour; diffuse = h.diffuse; ambient = h.ambient; specular = h.specular; emission = h.emission; lights = h.lights; palette = h.palette };
 }
 
-diffuse_goes : (word : ℕ) (s : NumbersState) → Goes s (diffuse_given word s)
+diffuse_goes : (word : ℕ) (s : Numbers) → Goes s (diffuse_given word s)
 unfolding diffuse_given
 diffuse_goes word s = record {
   run = omega arith;
   small = λ h. record { colour = colour_if (bit 15 word) (bits 0 15 word) s.colour (omega arith) h.colour; diffuse = omega arith; ambient = omega arith; specular = h.specular; emission = h.emission; lights = h.lights; palette = h.palette };
 }
 
-specular_goes : (word : ℕ) (s : NumbersState) → Goes s (specular_given word s)
+specular_goes : (word : ℕ) (s : Numbers) → Goes s (specular_given word s)
 unfolding specular_given
 specular_goes word s = record {
   run = omega arith;
   small = λ h. record { colour = h.colour; diffuse = h.diffuse; ambient = h.ambient; specular = omega arith; emission = omega arith; lights = h.lights; palette = h.palette };
 }
 
-pointed_goes : (word : ℕ) (s : NumbersState) → Goes s (light_pointed word s)
+pointed_goes : (word : ℕ) (s : Numbers) → Goes s (light_pointed word s)
 unfolding light_pointed
 pointed_goes word s = record {
   run = omega arith;
@@ -95,7 +96,7 @@ pointed_goes word s = record {
   };
 }
 
-coloured_goes : (word : ℕ) (s : NumbersState) → Goes s (light_coloured word s)
+coloured_goes : (word : ℕ) (s : Numbers) → Goes s (light_coloured word s)
 unfolding light_coloured
 coloured_goes word s = record {
   run = omega arith;
@@ -110,7 +111,7 @@ coloured_goes word s = record {
   };
 }
 
-begun_goes : (word : ℕ) (s : NumbersState) → Goes s (run_begun word s)
+begun_goes : (word : ℕ) (s : Numbers) → Goes s (run_begun word s)
 unfolding run_begun
 begun_goes word s = record {
   run = omega arith;
@@ -118,7 +119,7 @@ begun_goes word s = record {
 }
 
 -- a command that leaves the run and what has a bound
-rewritten : (s t : NumbersState) → t.colour ≡ s.colour → t.material ≡ s.material → t.lights ≡ s.lights → t.palette ≡ s.palette → AreSmall s → AreSmall t
+rewritten : (s t : Numbers) → t.colour ≡ s.colour → t.material ≡ s.material → t.lights ≡ s.lights → t.palette ≡ s.palette → AreSmall s → AreSmall t
 rewritten s t colour material lights palette h = record {
   colour = omega (arith, colour, h.colour);
   diffuse = rw material h.diffuse;
@@ -129,23 +130,23 @@ rewritten s t colour material lights palette h = record {
   palette = omega (arith, palette, h.palette);
 }
 
-same_goes : (s t : NumbersState) → t.run ≡ s.run → t.colour ≡ s.colour → t.material ≡ s.material → t.lights ≡ s.lights → t.palette ≡ s.palette → Goes s t
+same_goes : (s t : Numbers) → t.run ≡ s.run → t.colour ≡ s.colour → t.material ≡ s.material → t.lights ≡ s.lights → t.palette ≡ s.palette → Goes s t
 same_goes s t run colour material lights palette = record {
   run = omega (arith, run);
   small = λ h. rewritten s t colour material lights palette h;
 }
 
-drawn_goes : (command : GeometryCommand) (params : List ℕ) (s : NumbersState) → Goes s (numbers_drawn command params s)
+drawn_goes : (command : GeometryCommand) (params : List ℕ) (s : Numbers) → Goes s (numbers_drawn command params s)
 unfolding numbers_drawn
 drawn_goes BeginVtxs params s = begun_goes (slice_index params 0) s
 drawn_goes SwapBuffers params s = same_goes s _ refl refl refl refl refl
 drawn_goes Viewport params s = same_goes s _ refl refl refl refl refl
 drawn_goes PosTest params s = same_goes s _ refl refl refl refl refl
 drawn_goes command params s =
-    let moved : NumbersState = record s { stacks = commanded command params s.stacks } in
+    let moved : Numbers = record s { stacks = commanded command params s.stacks } in
     goes_if (gives_vertex command) s (vertex_given command params s) moved (vertex_goes command params s) (same_goes s moved refl refl refl refl refl)
 
-lit_goes : (command : GeometryCommand) (params : List ℕ) (s : NumbersState) → Goes s (numbers_lit command params s)
+lit_goes : (command : GeometryCommand) (params : List ℕ) (s : Numbers) → Goes s (numbers_lit command params s)
 unfolding numbers_lit
 lit_goes Normal params s = normal_goes (slice_index params 0) s
 lit_goes DifAmb params s = diffuse_goes (slice_index params 0) s
@@ -155,7 +156,7 @@ lit_goes LightColor params s = coloured_goes (slice_index params 0) s
 lit_goes Shininess params s = same_goes s _ refl refl refl refl refl
 lit_goes command params s = drawn_goes command params s
 
-pub command_goes : (command : GeometryCommand) (params : List ℕ) (s : NumbersState) → Goes s (numbers_after command params s)
+pub command_goes : (command : GeometryCommand) (params : List ℕ) (s : Numbers) → Goes s (numbers_after command params s)
 unfolding numbers_after
 command_goes Color params s = record {
   run = omega arith;
@@ -170,7 +171,7 @@ command_goes PlttBase params s = record {
 }
 command_goes command params s = lit_goes command params s
 
-pub small_after : (command : GeometryCommand) (params : List ℕ) (s t : NumbersState) → t ≡ numbers_after command params s → AreSmall s → AreSmall t
+pub small_after : (command : GeometryCommand) (params : List ℕ) (s t : Numbers) → t ≡ numbers_after command params s → AreSmall s → AreSmall t
 small_after command params s t e h = subst AreSmall (sym e) ((command_goes command params s).small h)
 
 -- a vertex or a polygon more

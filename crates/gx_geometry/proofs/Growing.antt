@@ -8,9 +8,9 @@ use Rattle.gx_geometry.specs.declared.numbers.Kind.{Kind}
 use Rattle.gx_geometry.specs.declared.numbers.Kind.TheVariants.{Triangles, Quads, TriangleStrip, QuadStrip}
 use Rattle.gx_geometry.specs.declared.polygons.Vertex.{Vertex}
 use Rattle.gx_geometry.specs.declared.polygons.Polygon.{Polygon}
-use Rattle.gx_geometry.specs.Records.{NumbersState}
+use Rattle.gx_geometry.specs.declared.numbers.Numbers.{Numbers}
 use Rattle.gx_geometry.specs.Changes.{numbers_after, gives_vertex}
-use Rattle.gx_geometry.specs.Polygons.{Arrival, arrival_of, no_place, place_since, polygon_of, polygon_among, polygon_at, polygon_by, corners, completed, has_corners, most_vertices, most_polygons}
+use Rattle.gx_geometry.specs.Polygons.{vertex_of, place_of, no_place, place_since, polygon_of, polygon_among, polygon_at, polygon_by, corners, completed, has_corners, most_vertices, most_polygons}
 use Rattle.gx_geometry.specs.ListLaws.{GeometryAct, Command, ClearError, ClearOverflow, arrivals, polygons_of, vertices_of}
 use Rattle.gx_geometry.specs.States.{OutcomeState, GeometryState, IsFresh, AreListsSince, four_recent, none_recent, then_recent, vertex_dropped, polygon_added, vertex_added, arrived, tested, outcome_after, geometry_after, geometry_error_cleared, overflow_cleared, after_all}
 use Rattle.gx_geometry.proofs.Backs.{Agrees, same_polygon}
@@ -44,44 +44,44 @@ polygon_step (Some p) o made e = elim (low_or_high (length made) most_polygons) 
 ]
 
 -- past the limit a vertex makes no polygon
-nowhere : (came : List Vertex) (a : Arrival) (place : ℕ) → most_vertices < length came → place_since came a place ≡ no_place
+nowhere : (came : List Vertex) (a : Numbers) (place : ℕ) → most_vertices < length came → place_since came a place ≡ no_place
 nowhere came a place h = grind (arith, h)
 
 none_stands : (stands : ℕ → ℕ) (p : ℕ) (ps : List ℕ) → stands p ≡ no_place → has_corners stands (p ∷ ps) ≡ false
 unfolding has_corners
 none_stands stands p ps h = rw h refl
 
-none_at : (came : List Vertex) (a : Arrival) (p : ℕ) (ps : List ℕ) → most_vertices < length came
+none_at : (came : List Vertex) (a : Numbers) (p : ℕ) (ps : List ℕ) → most_vertices < length came
     → polygon_at (place_since came a) came a (p ∷ ps) ≡ None
 none_at came a p ps h = rw (none_stands (place_since came a) p ps (nowhere came a p h)) refl
 
-strip_at : (came : List Vertex) (a : Arrival) (k : ℕ) (b : Bool) → most_vertices < length came
+strip_at : (came : List Vertex) (a : Numbers) (k : ℕ) (b : Bool) → most_vertices < length came
     → polygon_at (place_since came a) came a (if b then k ∷ (k + 1) ∷ (k + 2) ∷ [] else (k + 1) ∷ k ∷ (k + 2) ∷ []) ≡ None
 strip_at came a k true h = none_at came a k _ h
 strip_at came a k false h = none_at came a (k + 1) _ h
 
-kind_dropped : (kind : Kind) (k : ℕ) (came : List Vertex) (a : Arrival) → most_vertices < length came
+kind_dropped : (kind : Kind) (k : ℕ) (came : List Vertex) (a : Numbers) → most_vertices < length came
     → polygon_at (place_since came a) came a (corners kind k) ≡ None
 kind_dropped Triangles k came a h = none_at came a (3 * k) _ h
 kind_dropped Quads k came a h = none_at came a (4 * k) _ h
 kind_dropped TriangleStrip k came a h = strip_at came a k (k % 2 == 0) h
 kind_dropped QuadStrip k came a h = none_at came a (2 * k) _ h
 
-none_dropped : (k : Option ℕ) (came : List Vertex) (a : Arrival) → most_vertices < length came → polygon_by k (place_since came a) came a ≡ None
+none_dropped : (k : Option ℕ) (came : List Vertex) (a : Numbers) → most_vertices < length came → polygon_by k (place_since came a) came a ≡ None
 none_dropped None came a h = refl
 none_dropped (Some k) came a h = kind_dropped a.kind k came a h
 
-pub dropped : (came : List Vertex) (a : Arrival) → most_vertices < length came → polygon_of came a ≡ None
+pub dropped : (came : List Vertex) (a : Numbers) → most_vertices < length came → polygon_of came a ≡ None
 unfolding polygon_of
-dropped came a h = none_dropped (completed a.kind a.place) came a h
+dropped came a h = none_dropped (completed a.kind (place_of a)) came a h
 
 -- a vertex comes: both lists go on as those of all vertices and polygons, cut at the limits
-pub arrived_room : (a : Arrival) (o : OutcomeState) → length o.vertices < most_vertices →
-    arrived a o ≡ polygon_added (polygon_among (four_recent o) (o.vertices ++ a.vertex ∷ []) a) (vertex_added a.vertex o)
+pub arrived_room : (a : Numbers) (o : OutcomeState) → length o.vertices < most_vertices →
+    arrived a o ≡ polygon_added (polygon_among (four_recent o) (o.vertices ++ vertex_of a ∷ []) a) (vertex_added (vertex_of a) o)
 unfolding arrived
 arrived_room a o h = grind arith
 
-pub arrived_full : (a : Arrival) (o : OutcomeState) → most_vertices ≤ length o.vertices → arrived a o ≡ vertex_dropped o
+pub arrived_full : (a : Numbers) (o : OutcomeState) → most_vertices ≤ length o.vertices → arrived a o ≡ vertex_dropped o
 unfolding arrived
 arrived_full a o h = grind arith
 
@@ -89,60 +89,60 @@ pub record Holds (o : OutcomeState) (came : List Vertex) (made : List Polygon) :
   pub vertices_are : o.vertices ≡ take most_vertices came
   pub polygons_are : o.polygons ≡ take most_polygons made
 
-unfoldable pub polygons_with : Arrival → List Vertex → List Polygon → List Polygon
-polygons_with a came made = made ++ option_to_list (polygon_of (came ++ a.vertex ∷ []) a)
+unfoldable pub polygons_with : Numbers → List Vertex → List Polygon → List Polygon
+polygons_with a came made = made ++ option_to_list (polygon_of (came ++ vertex_of a ∷ []) a)
 
 -- the polygon that is made of the run's last vertices is that of all that came
-unfoldable pub SamePolygon : Arrival → OutcomeState → List Vertex → Type 0
+unfoldable pub SamePolygon : Numbers → OutcomeState → List Vertex → Type 0
 SamePolygon a o came =
-    length came < most_vertices → polygon_among (four_recent o) (o.vertices ++ a.vertex ∷ []) a ≡ polygon_of (came ++ a.vertex ∷ []) a
+    length came < most_vertices → polygon_among (four_recent o) (o.vertices ++ vertex_of a ∷ []) a ≡ polygon_of (came ++ vertex_of a ∷ []) a
 
-arrived_holds : (a : Arrival) (o : OutcomeState) (came : List Vertex) (made : List Polygon) → SamePolygon a o came → Holds o came made →
-    Holds (arrived a o) (came ++ a.vertex ∷ []) (polygons_with a came made)
+arrived_holds : (a : Numbers) (o : OutcomeState) (came : List Vertex) (made : List Polygon) → SamePolygon a o came → Holds o came made →
+    Holds (arrived a o) (came ++ vertex_of a ∷ []) (polygons_with a came made)
 unfolding polygons_with SamePolygon
 arrived_holds a o came made makes held = elim (low_or_high (length came) most_vertices) [
   | inl h ↦
       let same : o.vertices ≡ came = held.vertices_are ∙ take_all most_vertices came (omega arith) in
       let room : length o.vertices < most_vertices = omega (arith, ap (λ (xs : List Vertex). length xs) same) in
-      let fits : length (came ++ a.vertex ∷ []) ≤ most_vertices = omega (arith, length-append came (a.vertex ∷ [])) in
-      let p : Option Polygon = polygon_among (four_recent o) (o.vertices ++ a.vertex ∷ []) a in
+      let fits : length (came ++ vertex_of a ∷ []) ≤ most_vertices = omega (arith, length-append came (vertex_of a ∷ [])) in
+      let p : Option Polygon = polygon_among (four_recent o) (o.vertices ++ vertex_of a ∷ []) a in
       record {
-        vertices_are = ap (λ (x : OutcomeState). x.vertices) (arrived_room a o room) ∙ polygon_keeps p (vertex_added a.vertex o)
-            ∙ ap (λ (xs : List Vertex). xs ++ a.vertex ∷ []) same ∙ sym (take_all most_vertices (came ++ a.vertex ∷ []) fits);
-        polygons_are = ap (λ (x : OutcomeState). x.polygons) (arrived_room a o room) ∙ polygon_step p (vertex_added a.vertex o) made held.polygons_are
+        vertices_are = ap (λ (x : OutcomeState). x.vertices) (arrived_room a o room) ∙ polygon_keeps p (vertex_added (vertex_of a) o)
+            ∙ ap (λ (xs : List Vertex). xs ++ vertex_of a ∷ []) same ∙ sym (take_all most_vertices (came ++ vertex_of a ∷ []) fits);
+        polygons_are = ap (λ (x : OutcomeState). x.polygons) (arrived_room a o room) ∙ polygon_step p (vertex_added (vertex_of a) o) made held.polygons_are
             ∙ ap (λ (q : Option Polygon). take most_polygons (made ++ option_to_list q)) (makes h);
       }
   | inr h ↦
       let full : most_vertices ≤ length o.vertices =
       omega (arith, ap (λ (xs : List Vertex). length xs) held.vertices_are, length-take-le most_vertices came h) in
-      let past : most_vertices < length (came ++ a.vertex ∷ []) = omega (arith, length-append came (a.vertex ∷ [])) in
+      let past : most_vertices < length (came ++ vertex_of a ∷ []) = omega (arith, length-append came (vertex_of a ∷ [])) in
       record {
         vertices_are = ap (λ (x : OutcomeState). x.vertices) (arrived_full a o full) ∙ held.vertices_are
-            ∙ sym (take-append-le most_vertices came (a.vertex ∷ []) h);
+            ∙ sym (take-append-le most_vertices came (vertex_of a ∷ []) h);
         polygons_are = ap (λ (x : OutcomeState). x.polygons) (arrived_full a o full) ∙ held.polygons_are
-            ∙ sym (ap (λ (p : Option Polygon). take most_polygons (made ++ option_to_list p)) (dropped (came ++ a.vertex ∷ []) a past)
+            ∙ sym (ap (λ (p : Option Polygon). take most_polygons (made ++ option_to_list p)) (dropped (came ++ vertex_of a ∷ []) a past)
             ∙ ap (λ (xs : List Polygon). take most_polygons xs) (append-nil made));
       }
 ]
 
 -- a command, which gives a vertex or doesn't
-pub step_holds : (b : Bool) (a : Arrival) (o : OutcomeState) (came : List Vertex) (made : List Polygon) → (b ≡ true → SamePolygon a o came)
+pub step_holds : (b : Bool) (a : Numbers) (o : OutcomeState) (came : List Vertex) (made : List Polygon) → (b ≡ true → SamePolygon a o came)
     → Holds o came made →
-    Holds (if b then arrived a o else o) (if b then came ++ a.vertex ∷ [] else came) (if b then polygons_with a came made else made)
+    Holds (if b then arrived a o else o) (if b then came ++ vertex_of a ∷ [] else came) (if b then polygons_with a came made else made)
 step_holds true a o came made makes held = arrived_holds a o came made (makes refl) held
 step_holds false a o came made makes held = held
 
-pub step_vertices : (b : Bool) (a : Arrival) (came : List Vertex) (later : List Arrival) →
-    (if b then came ++ a.vertex ∷ [] else came) ++ vertices_of later ≡ came ++ vertices_of (if b then a ∷ later else later)
-step_vertices true a came later = append_assoc came (a.vertex ∷ []) (vertices_of later)
+pub step_vertices : (b : Bool) (a : Numbers) (came : List Vertex) (later : List Numbers) →
+    (if b then came ++ vertex_of a ∷ [] else came) ++ vertices_of later ≡ came ++ vertices_of (if b then a ∷ later else later)
+step_vertices true a came later = append_assoc came (vertex_of a ∷ []) (vertices_of later)
 step_vertices false a came later = refl
 
-pub step_polygons : (b : Bool) (a : Arrival) (came : List Vertex) (made : List Polygon) (later : List Arrival) →
-    (if b then polygons_with a came made else made) ++ polygons_of (if b then came ++ a.vertex ∷ [] else came) later
+pub step_polygons : (b : Bool) (a : Numbers) (came : List Vertex) (made : List Polygon) (later : List Numbers) →
+    (if b then polygons_with a came made else made) ++ polygons_of (if b then came ++ vertex_of a ∷ [] else came) later
     ≡ made ++ polygons_of came (if b then a ∷ later else later)
 unfolding polygons_of polygons_with
 step_polygons true a came made later =
-    append_assoc made (option_to_list (polygon_of (came ++ a.vertex ∷ []) a)) (polygons_of (came ++ a.vertex ∷ []) later)
+    append_assoc made (option_to_list (polygon_of (came ++ vertex_of a ∷ []) a)) (polygons_of (came ++ vertex_of a ∷ []) later)
 step_polygons false a came made later = refl
 
 -- where the last so many of a run's vertices stands among those that came
@@ -175,18 +175,18 @@ then_back came run recent h = record {
   third = back_last came run;
 }
 
-vertex_linked : (a : Arrival) (run : ℕ) (o : OutcomeState) (came : List Vertex) (made : List Polygon) → Holds o came made
+vertex_linked : (a : Numbers) (run : ℕ) (o : OutcomeState) (came : List Vertex) (made : List Polygon) → Holds o came made
     → IsLinked came run o.recent →
-    IsLinked (came ++ a.vertex ∷ []) (run + 1) (arrived a o).recent
+    IsLinked (came ++ vertex_of a ∷ []) (run + 1) (arrived a o).recent
 unfolding IsLinked
 vertex_linked a run o came made held linked few =
-    let one : length (came ++ a.vertex ∷ []) ≡ length came + 1 = length-append came (a.vertex ∷ []) in
+    let one : length (came ++ vertex_of a ∷ []) ≡ length came + 1 = length-append came (vertex_of a ∷ []) in
     let same : o.vertices ≡ came = held.vertices_are ∙ take_all most_vertices came (omega (arith, one, few)) in
     let long : length o.vertices ≡ length came = ap (λ (xs : List Vertex). length xs) same in
     let room : length o.vertices < most_vertices = omega (arith, long, one, few) in
-    let p = polygon_among (four_recent o) (o.vertices ++ a.vertex ∷ []) a in
+    let p = polygon_among (four_recent o) (o.vertices ++ vertex_of a ∷ []) a in
     let recent : then_recent (length came) o.recent ≡ (arrived a o).recent =
-    ap (λ (n : ℕ). then_recent n o.recent) (sym long) ∙ sym (recent_polygon p (vertex_added a.vertex o)) ∙ sym (ap (λ (x : OutcomeState). x.recent) (arrived_room a o room)) in
+    ap (λ (n : ℕ). then_recent n o.recent) (sym long) ∙ sym (recent_polygon p (vertex_added (vertex_of a) o)) ∙ sym (ap (λ (x : OutcomeState). x.recent) (arrived_room a o room)) in
     rw one (subst (AreBack (length came + 1) (run + 1)) recent (then_back (length came) run o.recent (linked (omega (arith, one, few)))))
 
 begun_linked : (came : List Vertex) → IsLinked came 0 none_recent
@@ -194,9 +194,9 @@ unfolding IsLinked
 begun_linked came few = record { first = refl; second = refl; third = refl }
 
 -- a command
-step_linked : (command : GeometryCommand) (params : List ℕ) (s : NumbersState) (o : OutcomeState) (a : Arrival) (came : List Vertex) (made : List Polygon) → Holds o came made →
+step_linked : (command : GeometryCommand) (params : List ℕ) (s : Numbers) (o : OutcomeState) (a : Numbers) (came : List Vertex) (made : List Polygon) → Holds o came made →
     IsLinked came s.run o.recent →
-    IsLinked (if gives_vertex command then came ++ a.vertex ∷ [] else came) (run_by command s.run)
+    IsLinked (if gives_vertex command then came ++ vertex_of a ∷ [] else came) (run_by command s.run)
     (if gives_vertex command then arrived a (tested command params s o) else tested command params s o).recent
 unfolding tested
 step_linked BeginVtxs params s o a came made held linked = begun_linked came
@@ -214,12 +214,12 @@ step_linked command params s o a came made held linked = linked
 pub command_linked : (command : GeometryCommand) (params : List ℕ) (g : GeometryState) (came : List Vertex) (made : List Polygon)
     → Holds g.outcome came made →
     IsLinked came g.numbers.run g.outcome.recent →
-    IsLinked (if gives_vertex command then came ++ (arrival_of (numbers_after command params g.numbers)).vertex ∷ [] else came)
+    IsLinked (if gives_vertex command then came ++ vertex_of (numbers_after command params g.numbers) ∷ [] else came)
     (geometry_after command params g).numbers.run (geometry_after command params g).outcome.recent
 unfolding geometry_after
 command_linked command params g came made held linked =
-    let a = arrival_of (numbers_after command params g.numbers) in
-    subst (λ (run : ℕ). IsLinked (if gives_vertex command then came ++ a.vertex ∷ [] else came) run (outcome_after command params g.numbers g.outcome).recent)
+    let a = numbers_after command params g.numbers in
+    subst (λ (run : ℕ). IsLinked (if gives_vertex command then came ++ vertex_of a ∷ [] else came) run (outcome_after command params g.numbers g.outcome).recent)
     (sym (run_by_command command params g.numbers)) (step_linked command params g.numbers g.outcome a came made held linked)
 
 -- so the polygon is the one of all that came
@@ -242,32 +242,32 @@ back_is came run last p (suc (suc zero)) four d c b a few = grind (arith, b)
 back_is came run last p (suc (suc (suc zero))) four d c b a few = grind (arith, a)
 back_is came run last p (suc (suc (suc (suc n)))) four d c b a few = absurd (omega (arith, few))
 
-since_is : (came : List Vertex) (a : Arrival) (n p b : ℕ) → length came ≡ n + 1 → n < most_vertices → a.place ≡ p + b
-    → place_since came a p ≡ (if nat_le b n && (nat_le b a.place || b == 0) then n - b else no_place)
+since_is : (came : List Vertex) (a : Numbers) (n p b : ℕ) → length came ≡ n + 1 → n < most_vertices → place_of a ≡ p + b
+    → place_since came a p ≡ (if nat_le b n && (nat_le b (place_of a) || b == 0) then n - b else no_place)
 since_is came a n p b long few e = grind (arith, long, few, e)
 
-agree : (a : Arrival) (o : OutcomeState) (came : List Vertex) → length came < most_vertices → length o.vertices ≡ length came
-    → AreBack (length came) a.place o.recent
-    → Agrees (place_since (came ++ a.vertex ∷ []) a) (four_recent o) a.place
+agree : (a : Numbers) (o : OutcomeState) (came : List Vertex) → length came < most_vertices → length o.vertices ≡ length came
+    → AreBack (length came) (place_of a) o.recent
+    → Agrees (place_since (came ++ vertex_of a ∷ []) a) (four_recent o) (place_of a)
 unfolding Agrees
 agree a o came room long back p b e few =
-    let one : length (came ++ a.vertex ∷ []) ≡ length came + 1 = length-append came (a.vertex ∷ []) in
-    since_is (came ++ a.vertex ∷ []) a (length came) p b one room e
-    ∙ sym (back_is (length came) a.place a.place p b (four_recent o) long back.third back.second back.first few)
+    let one : length (came ++ vertex_of a ∷ []) ≡ length came + 1 = length-append came (vertex_of a ∷ []) in
+    since_is (came ++ vertex_of a ∷ []) a (length came) p b one room e
+    ∙ sym (back_is (length came) (place_of a) (place_of a) p b (four_recent o) long back.third back.second back.first few)
 
-same_made : (a : Arrival) (run : ℕ) (o : OutcomeState) (came : List Vertex) (made : List Polygon) → a.place ≡ run → Holds o came made
+same_made : (a : Numbers) (run : ℕ) (o : OutcomeState) (came : List Vertex) (made : List Polygon) → place_of a ≡ run → Holds o came made
     → IsLinked came run o.recent →
     SamePolygon a o came
 unfolding SamePolygon IsLinked
 same_made a run o came made place held linked room =
     let same : o.vertices ≡ came = held.vertices_are ∙ take_all most_vertices came (omega (arith, room)) in
     let long : length o.vertices ≡ length came = ap (λ (xs : List Vertex). length xs) same in
-    let back : AreBack (length came) a.place o.recent =
+    let back : AreBack (length came) (place_of a) o.recent =
     subst (λ (n : ℕ). AreBack (length came) n o.recent) (sym place) (linked (omega (arith, room))) in
-    ap (λ (xs : List Vertex). polygon_among (four_recent o) (xs ++ a.vertex ∷ []) a) same
-    ∙ same_polygon (four_recent o) (came ++ a.vertex ∷ []) a (agree a o came room long back)
+    ap (λ (xs : List Vertex). polygon_among (four_recent o) (xs ++ vertex_of a ∷ []) a) same
+    ∙ same_polygon (four_recent o) (came ++ vertex_of a ∷ []) a (agree a o came room long back)
 
-tested_recent : (command : GeometryCommand) (params : List ℕ) (s : NumbersState) (o : OutcomeState) → gives_vertex command ≡ true
+tested_recent : (command : GeometryCommand) (params : List ℕ) (s : Numbers) (o : OutcomeState) → gives_vertex command ≡ true
     → (tested command params s o).recent ≡ o.recent
 unfolding tested
 tested_recent BeginVtxs params s o h = absurd (true≢false (sym h))
@@ -277,7 +277,7 @@ tested_recent VecTest params s o h = refl
 tested_recent _ params s o h = refl
 
 -- a test leaves the lists
-pub tested_holds : (command : GeometryCommand) (params : List ℕ) (s : NumbersState) (o : OutcomeState) (came : List Vertex) (made : List Polygon) → Holds o came made →
+pub tested_holds : (command : GeometryCommand) (params : List ℕ) (s : Numbers) (o : OutcomeState) (came : List Vertex) (made : List Polygon) → Holds o came made →
     Holds (tested command params s o) came made
 unfolding tested
 tested_holds BoxTest params s o came made held = record { vertices_are = held.vertices_are; polygons_are = held.polygons_are }
@@ -286,13 +286,13 @@ tested_holds VecTest params s o came made held = record { vertices_are = held.ve
 tested_holds BeginVtxs params s o came made held = record { vertices_are = held.vertices_are; polygons_are = held.polygons_are }
 tested_holds _ params s o came made held = held
 
-pub same_given : (command : GeometryCommand) (params : List ℕ) (s : NumbersState) (o : OutcomeState) (came : List Vertex) (made : List Polygon)
+pub same_given : (command : GeometryCommand) (params : List ℕ) (s : Numbers) (o : OutcomeState) (came : List Vertex) (made : List Polygon)
     → Holds o came made →
     IsLinked came s.run o.recent → gives_vertex command ≡ true
-    → SamePolygon (arrival_of (numbers_after command params s)) (tested command params s o) came
+    → SamePolygon (numbers_after command params s) (tested command params s o) came
 same_given command params s o came made held linked gives =
-    let a = arrival_of (numbers_after command params s) in
-    let place : a.place ≡ s.run = let run = run_by_command command params s in let one = run_given command s.run gives in omega (arith, run, one) in
+    let a = numbers_after command params s in
+    let place : place_of a ≡ s.run = let run = run_by_command command params s in let one = run_given command s.run gives in omega (arith, run, one) in
     same_made a s.run (tested command params s o) came made place (tested_holds command params s o came made held)
     (subst (IsLinked came s.run) (sym (tested_recent command params s o gives)) linked)
 
@@ -311,15 +311,15 @@ grown [] g came made linked held = (
 )
 grown (Command command params ∷ acts) g came made linked held =
     let b : Bool = gives_vertex command in
-    let a : Arrival = arrival_of (numbers_after command params g.numbers) in
+    let a : Numbers = numbers_after command params g.numbers in
     let o : OutcomeState = tested command params g.numbers g.outcome in
     let kept : Holds o came made = tested_holds command params g.numbers g.outcome came made held in
-    let came' : List Vertex = if b then came ++ a.vertex ∷ [] else came in
+    let came' : List Vertex = if b then came ++ vertex_of a ∷ [] else came in
     let made' : List Polygon = if b then polygons_with a came made else made in
     let makes : b ≡ true → SamePolygon a o came = same_given command params g.numbers g.outcome came made held linked in
     let next : GeometryState = geometry_after command params g in
     let rest = grown acts next came' made' (command_linked command params g came made held linked) (step_holds b a o came made makes kept) in
-    let later : List Arrival = arrivals (numbers_after command params g.numbers) acts in (
+    let later : List Numbers = arrivals (numbers_after command params g.numbers) acts in (
       record {
         vertices_are = rest.0.vertices_are ∙ ap (λ (xs : List Vertex). take most_vertices xs) (step_vertices b a came later);
         polygons_are = rest.0.polygons_are ∙ ap (λ (xs : List Polygon). take most_polygons xs) (step_polygons b a came made later);

@@ -1,10 +1,10 @@
 use Rattle.std.proofs.Common.{ℕ, zero, suc, ◌<◌, ◌^◌, [], ◌∷◌, arith}
 use Rattle.std.specs.Prelude.{slice_index_or}
-use Rattle.gx_geometry.specs.Records.{LightState}
+use Rattle.gx_geometry.specs.declared.numbers.Light.{Light}
 use Rattle.gx_geometry.specs.Numbers.{no_light}
 
 -- Four lights with colours of fifteen bits.
-pub four_lights : (a b c d : LightState) → a.colour < 2 ^ 15 → b.colour < 2 ^ 15 → c.colour < 2 ^ 15 → d.colour < 2 ^ 15
+pub four_lights : (a b c d : Light) → a.colour < 2 ^ 15 → b.colour < 2 ^ 15 → c.colour < 2 ^ 15 → d.colour < 2 ^ 15
     → (i : ℕ) → (slice_index_or (a ∷ b ∷ c ∷ d ∷ []) i no_light).colour < 2 ^ 15
 four_lights a b c d p q r s zero = p
 four_lights a b c d p q r s (suc zero) = q

@@ -3,9 +3,9 @@ use Rattle.std.specs.Prelude.{if◌then◌else◌}
 use Rattle.gx_matrix.specs.declared.commands.GeometryCommand.{GeometryCommand}
 use Rattle.gx_matrix.specs.declared.commands.GeometryCommand.TheVariants.{Color, Normal, Texcoord, Vtx16, Vtx10, VtxXy, VtxXz, VtxYz, VtxDiff, PolygonAttr, TeximageParam, PlttBase, DifAmb, SpeEmi, LightVector, LightColor, Shininess, BeginVtxs, SwapBuffers, Viewport, BoxTest, PosTest, VecTest}
 use Rattle.gx_geometry.specs.declared.polygons.Polygon.{Polygon}
-use Rattle.gx_geometry.specs.Records.{NumbersState}
+use Rattle.gx_geometry.specs.declared.numbers.Numbers.{Numbers}
 use Rattle.gx_geometry.specs.Changes.{numbers_drawn, numbers_lit, numbers_after, normal_given, coordinates_given, vertex_given, diffuse_given, specular_given, light_pointed, light_coloured, run_begun, gives_vertex}
-use Rattle.gx_geometry.specs.Polygons.{Arrival, arrival_of, no_place, polygon_among, most_vertices, most_polygons}
+use Rattle.gx_geometry.specs.Polygons.{vertex_of, no_place, polygon_among, most_vertices, most_polygons}
 use Rattle.gx_geometry.specs.States.{OutcomeState, GeometryState, four_recent, none_recent, then_recent, overflown, polygon_added, vertex_added, vertex_dropped, arrived, tested, outcome_after, geometry_after}
 use Rattle.gx_geometry.specs.Bounds.{is_place, is_told}
 use Rattle.gx_geometry.specs.BoundLaws.{ArePlaces, AreTold}
@@ -55,7 +55,7 @@ abbrev pub run_by : GeometryCommand → ℕ → ℕ
 run_by BeginVtxs run = 0
 run_by command run = if gives_vertex command then run + 1 else run
 
-pub run_by_command : (command : GeometryCommand) (params : List ℕ) (s : NumbersState) → (numbers_after command params s).run ≡ run_by command s.run
+pub run_by_command : (command : GeometryCommand) (params : List ℕ) (s : Numbers) → (numbers_after command params s).run ≡ run_by command s.run
 unfolding numbers_after numbers_lit numbers_drawn normal_given coordinates_given vertex_given diffuse_given specular_given light_pointed light_coloured run_begun
 run_by_command Color params s = refl
 run_by_command Texcoord params s = refl
@@ -89,16 +89,16 @@ pub recent_polygon : (p : Option Polygon) (o : OutcomeState) → (polygon_added 
 recent_polygon None o = refl
 recent_polygon (Some p) o = recent_if (nat_lt (length o.polygons) most_polygons) p o
 
-arrived_told : (room : Bool) (p : Option Polygon) (a : Arrival) (run : ℕ) (o : OutcomeState) → AreTold run o.recent
-    → AreTold (run + 1) (if room then polygon_added p (vertex_added a.vertex o) else vertex_dropped o).recent
-arrived_told true p a run o h = subst (AreTold (run + 1)) (sym (recent_polygon p (vertex_added a.vertex o))) (told_then run (length o.vertices) o.recent h)
+arrived_told : (room : Bool) (p : Option Polygon) (a : Numbers) (run : ℕ) (o : OutcomeState) → AreTold run o.recent
+    → AreTold (run + 1) (if room then polygon_added p (vertex_added (vertex_of a) o) else vertex_dropped o).recent
+arrived_told true p a run o h = subst (AreTold (run + 1)) (sym (recent_polygon p (vertex_added (vertex_of a) o))) (told_then run (length o.vertices) o.recent h)
 arrived_told false p a run o h = told_then run no_place o.recent h
 
-vertex_told : (a : Arrival) (run : ℕ) (o : OutcomeState) → AreTold run o.recent → AreTold (run + 1) (arrived a o).recent
+vertex_told : (a : Numbers) (run : ℕ) (o : OutcomeState) → AreTold run o.recent → AreTold (run + 1) (arrived a o).recent
 unfolding arrived
-vertex_told a run o h = arrived_told (nat_lt (length o.vertices) most_vertices) (polygon_among (four_recent o) (o.vertices ++ a.vertex ∷ []) a) a run o h
+vertex_told a run o h = arrived_told (nat_lt (length o.vertices) most_vertices) (polygon_among (four_recent o) (o.vertices ++ vertex_of a ∷ []) a) a run o h
 
-command_told : (command : GeometryCommand) (params : List ℕ) (s : NumbersState) (o : OutcomeState) (a : Arrival) → AreTold s.run o.recent
+command_told : (command : GeometryCommand) (params : List ℕ) (s : Numbers) (o : OutcomeState) (a : Numbers) → AreTold s.run o.recent
     → AreTold (run_by command s.run) (if gives_vertex command then arrived a (tested command params s o) else tested command params s o).recent
 unfolding tested
 command_told BeginVtxs params s o a h = none_told 0
@@ -118,15 +118,15 @@ pub told_after : (command : GeometryCommand) (params : List ℕ) (g : GeometrySt
     → AreTold (geometry_after command params g).numbers.run (geometry_after command params g).outcome.recent
 unfolding geometry_after
 told_after command params g h =
-    let a = arrival_of (numbers_after command params g.numbers) in
+    let a = numbers_after command params g.numbers in
     subst (λ (run : ℕ). AreTold run (outcome_after command params g.numbers g.outcome).recent) (sym (run_by_command command params g.numbers))
     (command_told command params g.numbers g.outcome a h)
 
 -- the same of what a command's parts leave: where it gives a vertex, and where it doesn't
-pub told_given : (command : GeometryCommand) (params : List ℕ) (s t : NumbersState) (o p q : OutcomeState) → gives_vertex command ≡ true
-    → t ≡ numbers_after command params s → p ≡ tested command params s o → q ≡ arrived (arrival_of t) p → AreTold s.run o.recent → AreTold t.run q.recent
+pub told_given : (command : GeometryCommand) (params : List ℕ) (s t : Numbers) (o p q : OutcomeState) → gives_vertex command ≡ true
+    → t ≡ numbers_after command params s → p ≡ tested command params s o → q ≡ arrived t p → AreTold s.run o.recent → AreTold t.run q.recent
 told_given command params s t o p q gives numbers tests comes h =
-    let a = arrival_of t in
+    let a = t in
     let both : AreTold (run_by command s.run) (if gives_vertex command then arrived a (tested command params s o) else tested command params s o).recent =
     command_told command params s o a h in
     let chosen : (if gives_vertex command then arrived a (tested command params s o) else tested command params s o) ≡ q =
@@ -134,16 +134,16 @@ told_given command params s t o p q gives numbers tests comes h =
     ∙ ap (λ (x : OutcomeState). arrived a x) (sym tests) ∙ sym comes in
     subst (λ (x : OutcomeState). AreTold t.run x.recent) chosen
     (subst (λ (run : ℕ). AreTold run (if gives_vertex command then arrived a (tested command params s o) else tested command params s o).recent)
-    (sym (ap (λ (n : NumbersState). n.run) numbers ∙ run_by_command command params s)) both)
+    (sym (ap (λ (n : Numbers). n.run) numbers ∙ run_by_command command params s)) both)
 
-pub told_kept : (command : GeometryCommand) (params : List ℕ) (s t : NumbersState) (o p : OutcomeState) → gives_vertex command ≡ false
+pub told_kept : (command : GeometryCommand) (params : List ℕ) (s t : Numbers) (o p : OutcomeState) → gives_vertex command ≡ false
     → t ≡ numbers_after command params s → p ≡ tested command params s o → AreTold s.run o.recent → AreTold t.run p.recent
 told_kept command params s t o p gives numbers tests h =
-    let a = arrival_of t in
+    let a = t in
     let both : AreTold (run_by command s.run) (if gives_vertex command then arrived a (tested command params s o) else tested command params s o).recent =
     command_told command params s o a h in
     let chosen : (if gives_vertex command then arrived a (tested command params s o) else tested command params s o) ≡ p =
     ap (λ (b : Bool). if b then arrived a (tested command params s o) else tested command params s o) gives ∙ sym tests in
     subst (λ (x : OutcomeState). AreTold t.run x.recent) chosen
     (subst (λ (run : ℕ). AreTold run (if gives_vertex command then arrived a (tested command params s o) else tested command params s o).recent)
-    (sym (ap (λ (n : NumbersState). n.run) numbers ∙ run_by_command command params s)) both)
+    (sym (ap (λ (n : Numbers). n.run) numbers ∙ run_by_command command params s)) both)

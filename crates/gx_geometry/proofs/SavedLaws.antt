@@ -12,10 +12,10 @@ use Rattle.gx_geometry.specs.declared.polygons.Vertex.{Vertex}
 use Rattle.gx_geometry.specs.declared.polygons.Polygon.{Polygon}
 use Rattle.gx_geometry.specs.Bounds.{is_place}
 use Rattle.gx_geometry.specs.Polygons.{most_vertices, most_polygons}
-use Rattle.gx_geometry.specs.Records.{LightState}
+use Rattle.gx_geometry.specs.declared.numbers.Light.{Light}
 use Rattle.gx_geometry.specs.States.{GeometryState, Swapped, no_swap}
-use Rattle.gx_geometry.specs.SavedLaws.{GeometryIsSaved, IsSavedGeometry, AreCurrent, AreLighting, AreTestResults, AreSwapped, IsLight, IsPolygon, IsVertex}
-use Rattle.gx_geometry.specs.Saved.{CurrentNumbers, LightingNumbers, TestResults, signed_at, holds_recent, unless_none, vertex_format, polygon_format, current_format, light_format, lighting_format, results_format, lists_format, geometry_format, run_kind_number}
+use Rattle.gx_geometry.specs.SavedLaws.{GeometryIsSaved, IsSavedGeometry, AreSwapped, IsLight, IsPolygon, IsVertex}
+use Rattle.gx_geometry.specs.Saved.{signed_at, holds_recent, unless_none, vertex_format, polygon_format, light_format, lists_format, geometry_format, run_kind_number}
 
 -- What the geometry engine owes of its format.
 
@@ -27,37 +27,12 @@ polygon_exact : (at : ℕ) → IsExact polygon_format at
 unfolding polygon_format
 polygon_exact at = λ attributes _ _ texture _ _ palette _ _ viewport _ _ corners _ _ first _ _ second _ _ third _ _ fourth _ _. search rules
 
-current_exact : (at : ℕ) → IsExact current_format at
-unfolding current_format
-current_exact at = λ colour _ _ x _ _ y _ _ z _ _ raw_s _ _ raw_t _ _ s _ _ t _ _ set _ _ attributes _ _ texture _ _ palette _ _ viewport _ _. search rules
-
 light_exact : (at : ℕ) → IsExact light_format at
 unfolding light_format
 light_exact at = λ x _ _ y _ _ z _ _ colour _ _. search rules
 
 signed_exact : (at : ℕ) → IsExact signed_format at
 signed_exact at = λ w _ _. (refl, tt)
-
-lighting_exact : (at : ℕ) → IsExact lighting_format at
-unfolding lighting_format
-lighting_exact at = λ diffuse _ _ ambient _ _ specular _ _ emission _ _ by_table _ _ table _ _. (
-  light_exact at,
-  λ first _. (
-    light_exact at,
-    λ second _. (
-      light_exact at,
-      λ third _. (
-        light_exact at,
-        λ fourth _.
-            search rules,
-      ),
-    ),
-  ),
-)
-
-results_exact : (at : ℕ) → IsExact results_format at
-unfolding results_format
-results_exact at = (signed_exact at, λ position long _ a _ _ b _ _ c _ _ inside _ _. search rules)
 
 lists_exact : (at : ℕ) → IsExact lists_format at
 unfolding lists_format
@@ -75,29 +50,35 @@ pub geometry_exact : (at : ℕ) → IsExact geometry_format at
 unfolding geometry_format
 geometry_exact at = (
   stacks_exact at,
-  λ stacks _ overflow _ _ parameter _ _. (
-    current_exact at,
-    λ current _. (
-      lighting_exact at,
-      λ lighting _
-          kind _ small run _ _ first _ _ second _ _ third _ _. (
-            results_exact at,
-            λ results _ vertex_count _ _ polygon_count _ _. (
-              vertex_exact at,
-              λ vertices long _. (
-                polygon_exact at,
-                λ polygons as_long _. (
-                  lists_exact at,
-                  λ last _.
-                      let few : kind < 4 = grind (arith, small) in
-                      let number = number_of_kind kind few in
-                      search rules,
+  λ stacks _ overflow _ _ parameter _ _ colour _ _ x _ _ y _ _ z _ _ raw_s _ _ raw_t _ _ s _ _ t _ _ set _ _ attributes _ _ texture _ _ palette _ _
+      viewport _ _ diffuse _ _ ambient _ _ specular _ _ emission _ _ by_table _ _ table _ _. (
+        light_exact at,
+        λ light_0 _. (
+          light_exact at,
+          λ light_1 _. (
+            light_exact at,
+            λ light_2 _. (
+              light_exact at,
+              λ light_3 _ kind _ small run _ _ first _ _ second _ _ third _ _. (
+                signed_exact at,
+                λ position four _ vector_x _ _ vector_y _ _ vector_z _ _ inside _ _ vertex_count _ _ polygon_count _ _. (
+                  vertex_exact at,
+                  λ vertices long _. (
+                    polygon_exact at,
+                    λ polygons as_long _. (
+                      lists_exact at,
+                      λ last _.
+                          let few : kind < 4 = grind (arith, small) in
+                          let number = number_of_kind kind few in
+                          search rules,
+                    ),
+                  ),
                 ),
               ),
             ),
           ),
-    ),
-  ),
+        ),
+      ),
 )
 
 -- numbers that have their bounds stand for themselves
@@ -130,7 +111,7 @@ halves_again (a ∷ b ∷ []) h = absurd (omega (arith, h))
 halves_again (a ∷ b ∷ c ∷ []) h = refl
 halves_again (a ∷ b ∷ c ∷ d ∷ rest) h = absurd (omega (arith, h))
 
-lights_again : (xs : List LightState) → length xs ≡ 4 →
+lights_again : (xs : List Light) → length xs ≡ 4 →
     slice_index_or xs 0 no_light ∷ slice_index_or xs 1 no_light ∷ slice_index_or xs 2 no_light ∷ slice_index_or xs 3 no_light ∷ [] ≡ xs
 lights_again [] h = absurd (omega (arith, h))
 lights_again (a ∷ []) h = absurd (omega (arith, h))
@@ -161,43 +142,14 @@ signed_stand : (at : ℕ) (ws : List ℤ) → AllByRecursion (λ x. FitsSigned w
 signed_stand at [] h = tt
 signed_stand at (w ∷ ws) h = (((h.0, refl, tt), refl), signed_stand at ws h.1)
 
-current_stands : (at : ℕ) (n : CurrentNumbers) → AreCurrent n → StandsFor current_format at n
-unfolding current_format
-current_stands at n are =
-    let colour = are.colour in let x = are.x in let y = are.y in let z = are.z in let raw_s = are.raw_s in let raw_t = are.raw_t in
-    let s = are.s in let t = are.t in let set = are.set in let attributes = are.attributes in let texture = are.texture in
-    let palette = are.palette in let viewport = are.viewport in
-    (search rules, refl)
-
-light_stands : (at : ℕ) (l : LightState) → IsLight l → StandsFor light_format at l
+light_stands : (at : ℕ) (l : Light) → IsLight l → StandsFor light_format at l
 unfolding light_format
 light_stands at l is = let x = is.x in let y = is.y in let z = is.z in let colour = is.colour in (search rules, refl)
 
-light_among : (xs : List LightState) → AllByRecursion IsLight xs → (i : ℕ) → i < length xs → IsLight (slice_index_or xs i no_light)
+light_among : (xs : List Light) → AllByRecursion IsLight xs → (i : ℕ) → i < length xs → IsLight (slice_index_or xs i no_light)
 light_among [] all i h = absurd (omega (arith, h))
 light_among (x ∷ xs) all zero h = all.0
 light_among (x ∷ xs) all (suc i) h = light_among xs all.1 i (omega (arith, h))
-
-lighting_stands : (at : ℕ) (n : LightingNumbers) → AreLighting n → StandsFor lighting_format at n
-unfolding lighting_format
-lighting_stands at n are =
-    let diffuse = are.diffuse in let ambient = are.ambient in let specular = are.specular in let emission = are.emission in
-    let bytes = are.bytes in
-    let first = light_stands at _ (light_among n.lights are.lights 0 (omega (arith, are.four))) in
-    let second = light_stands at _ (light_among n.lights are.lights 1 (omega (arith, are.four))) in
-    let third = light_stands at _ (light_among n.lights are.lights 2 (omega (arith, are.four))) in
-    let fourth = light_stands at _ (light_among n.lights are.lights 3 (omega (arith, are.four))) in
-    let again = lights_again n.lights are.four in
-    (search rules, rw again refl)
-
-results_stand : (at : ℕ) (r : TestResults) → AreTestResults r → StandsFor results_format at r
-unfolding results_format
-results_stand at r are =
-    let four = are.four in
-    let position = signed_stand at r.position are.position in
-    let a = are.a in let b = are.b in let c = are.c in
-    let again = halves_again r.vector are.three in
-    (search rules, rw again refl)
 
 -- at tick 0 there was no swap
 unless : (tick most at n : ℕ) → n ≤ most → (tick ≡ 0 → n ≡ 0) → unless_none tick most at n ≡ true
@@ -245,8 +197,17 @@ unfolding geometry_format
 geometry_stands at g early is =
     let stacks = stacks_stand at g.numbers.stacks is.bounds.stacks in
     let parameter = is.bounds.parameter in
-    let current = current_stands at _ is.bounds.current in
-    let lighting = lighting_stands at _ is.bounds.lighting in
+    let n = is.bounds.current in
+    let colour = n.colour in let x = n.x in let y = n.y in let z = n.z in let raw_s = n.raw_s in let raw_t = n.raw_t in
+    let s = n.s in let t = n.t in let set = n.set in let attributes = n.attributes in let texture = n.texture in
+    let palette = n.palette in let viewport = n.viewport in
+    let lit = is.bounds.lighting in
+    let diffuse = lit.diffuse in let ambient = lit.ambient in let specular = lit.specular in let emission = lit.emission in
+    let bytes = lit.bytes in
+    let light_0 = light_stands at _ (light_among g.numbers.lights lit.lights 0 (omega (arith, lit.four))) in
+    let light_1 = light_stands at _ (light_among g.numbers.lights lit.lights 1 (omega (arith, lit.four))) in
+    let light_2 = light_stands at _ (light_among g.numbers.lights lit.lights 2 (omega (arith, lit.four))) in
+    let light_3 = light_stands at _ (light_among g.numbers.lights lit.lights 3 (omega (arith, lit.four))) in
     let kinds = few_kinds g.numbers.kind in
     let run = is.run in
     let few = is.bounds.vertex_count in
@@ -255,14 +216,19 @@ geometry_stands at g early is =
     let second = place_small _ _ few is.bounds.places.second in
     let third = place_small _ _ few is.bounds.places.third in
     let told_first = is.bounds.told.first in let told_second = is.bounds.told.second in let told_third = is.bounds.told.third in
-    let results = results_stand at _ is.bounds.results in
+    let results = is.bounds.results in
+    let four = results.four in
+    let position = signed_stand at g.outcome.position results.position in
+    let a = results.a in let b = results.b in let c = results.c in
     let holds = holds_all _ _ _ 0 _ few is.bounds.places.first is.bounds.places.second is.bounds.places.third in
     let vertices = vertices_stand at g.outcome.vertices is.bounds.vertices in
     let polygons = polygons_stand at g.outcome.polygons is.bounds.polygons in
     let last = lists_stand at g.last early is.bounds.last is.swap is.none in
     let kind = kind_again g.numbers.kind in
     let again = three_again g.outcome.recent is.bounds.places.three in
-    (search rules, rw (kind, again) refl)
+    let lights_are = lights_again g.numbers.lights lit.four in
+    let vector_is = halves_again g.outcome.vector results.three in
+    (search rules, rw (kind, again, lights_are, vector_is) refl)
 
 pub geometry_saved : GeometryIsSaved
 geometry_saved = record {

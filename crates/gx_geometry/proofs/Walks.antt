@@ -7,7 +7,6 @@ use Rattle.gx_geometry.specs.declared.polygons.Vertex.{Vertex}
 use Rattle.gx_geometry.specs.BoundLaws.{HaveColours, HavePalettes, HaveShapes, is_shaped, no_polygon}
 use Rattle.gx_geometry.specs.Numbers.{no_light}
 use Rattle.gx_geometry.specs.Polygons.{no_vertex}
-use Rattle.gx_geometry.specs.RecordsKept.{light_seen}
 use Rattle.gx_geometry.specs.SavedLaws.{IsLight, IsPolygon, IsVertex}
 use Rattle.gx_geometry.specs.Saved.{has_corner_count, may_be_fourth}
 use Rattle.gx_geometry.specs.SavedKept.{FitsLight, FitsPolygon, FitsVertex, dark_light}
@@ -54,11 +53,11 @@ all_polygons [] palettes shapes h = tt
 all_polygons (x ∷ xs) palettes shapes h =
     (polygon_is x (palettes 0) shapes.0 (h 0 (omega arith)), all_polygons xs (λ i. palettes (suc i)) shapes.1 (λ i l. h (suc i) (omega (arith, l))))
 
-light_is : (l : Light) → l.colour < 2 ^ 15 → FitsLight l → IsLight (light_seen l)
+light_is : (l : Light) → l.colour < 2 ^ 15 → FitsLight l → IsLight l
 light_is l colour fits = record { x = fits.x; y = fits.y; z = fits.z; colour = colour }
 
-pub all_lights : (xs : List Light) → ((i : ℕ) → (slice_index_or (map light_seen xs) i no_light).colour < 2 ^ 15)
-    → ((i : ℕ) → i < length xs → FitsLight (slice_index_or xs i dark_light)) → AllByRecursion IsLight (map light_seen xs)
+pub all_lights : (xs : List Light) → ((i : ℕ) → (slice_index_or xs i no_light).colour < 2 ^ 15)
+    → ((i : ℕ) → i < length xs → FitsLight (slice_index_or xs i dark_light)) → AllByRecursion IsLight xs
 all_lights [] colours h = tt
 all_lights (x ∷ xs) colours h =
     (light_is x (colours 0) (h 0 (omega arith)), all_lights xs (λ i. colours (suc i)) (λ i l. h (suc i) (omega (arith, l))))

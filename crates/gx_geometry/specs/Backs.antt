@@ -6,7 +6,8 @@ use Rattle.gx_geometry.specs.declared.polygons.Shape.{Shape}
 use Rattle.gx_geometry.specs.declared.polygons.Shape.TheVariants.{Triangle, TurnedTriangle, Quad, StripQuad}
 use Rattle.gx_geometry.specs.declared.polygons.Vertex.{Vertex}
 use Rattle.gx_geometry.specs.declared.polygons.Polygon.{Polygon}
-use Rattle.gx_geometry.specs.Polygons.{Arrival, no_place, no_vertex, determinant, is_kept}
+use Rattle.gx_geometry.specs.Polygons.{no_place, no_vertex, determinant, is_kept}
+use Rattle.gx_geometry.specs.declared.numbers.Numbers.{Numbers}
 
 -- How the code finds a polygon's corners: by how many vertices before the last one they came, among the places of the last four. No public
 -- call speaks of it.
@@ -39,7 +40,7 @@ seen_back four came attributes shape =
 unfoldable pub indices_back : List ℕ → Shape → List ℕ
 indices_back four shape = map (index_back four) (corners_back shape) ++ replicate (4 - length (corners_back shape)) 0
 
-unfoldable pub polygon_back : List ℕ → Arrival → Shape → Polygon
+unfoldable pub polygon_back : List ℕ → Numbers → Shape → Polygon
 polygon_back four a shape = record {
   attributes = a.attributes;
   texture = a.texture;
@@ -49,7 +50,7 @@ polygon_back four a shape = record {
   indices = indices_back four shape;
 }
 
-abbrev pub polygon_by_shape : Option Shape → List ℕ → List Vertex → Arrival → Option Polygon
+abbrev pub polygon_by_shape : Option Shape → List ℕ → List Vertex → Numbers → Option Polygon
 polygon_by_shape None four came a = None
 polygon_by_shape (Some shape) four came a =
     if reaches_back four shape && seen_back four came a.attributes shape then Some (polygon_back four a shape) else None

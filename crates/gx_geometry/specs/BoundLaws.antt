@@ -1,6 +1,6 @@
 use Rattle.std.specs.Prelude.{ℕ, ◌≡◌, ◌<◌, ◌≤◌, ◌^◌, ◌==◌, ◌&&◌, ◌||◌, Bool, true, [], List, length, slice_index, slice_index_or}
 use Rattle.std.specs.List.{AllByRecursion}
-use Rattle.gx_geometry.specs.Records.{NumbersState}
+use Rattle.gx_geometry.specs.declared.numbers.Numbers.{Numbers}
 use Rattle.gx_geometry.specs.declared.polygons.Vertex.{Vertex}
 use Rattle.gx_geometry.specs.declared.polygons.Polygon.{Polygon}
 use Rattle.gx_geometry.specs.Lights.{light_at}
@@ -11,7 +11,7 @@ use Rattle.gx_geometry.specs.Bounds.{is_place, is_told}
 -- What holds of the engine at every time, by which those who hold it know the sizes of what it gives out.
 
 -- colours have fifteen bits, the base of a texture's palette thirteen (GBATEK, COLOR, DIF_AMB, SPE_EMI, LIGHT_COLOR, PLTT_BASE)
-pub record AreSmall (s : NumbersState) : Type 0 where
+pub record AreSmall (s : Numbers) : Type 0 where
   pub colour : s.colour < 2 ^ 15
   pub diffuse : s.material.diffuse < 2 ^ 15
   pub ambient : s.material.ambient < 2 ^ 15

@@ -3,7 +3,7 @@ use Rattle.std.specs.Int.{int_wrap, w16}
 use Rattle.std.specs.List.{list_all}
 use Rattle.line_lanes.specs.Matrices.{at, transform4}
 use Rattle.line_lanes.specs.declared.matrices.Matrix.{Matrix}
-use Rattle.gx_geometry.specs.Records.{GivenPointState}
+use Rattle.gx_geometry.specs.declared.numbers.Point.{Point}
 use Rattle.gx_geometry.specs.declared.boxes.Clipped.{Clipped}
 use Rattle.gx_geometry.specs.declared.boxes.Plane.{Plane}
 use Rattle.gx_geometry.specs.declared.boxes.Plane.TheVariants.{Right, Left, Top, Bottom, Far, Near}
@@ -13,7 +13,7 @@ use Rattle.gx_geometry.specs.Numbers.{low_half, high_half, given_point}
 abbrev pub clipped_of : List ℤ → Clipped
 clipped_of v = record { x = at v 0; y = at v 1; z = at v 2; w = at v 3 }
 
-unfoldable pub through : GivenPointState → Matrix → Clipped
+unfoldable pub through : Point → Matrix → Clipped
 through p m = clipped_of (transform4 (p.x ∷ p.y ∷ p.z ∷ pos 4096 ∷ []) m)
 
 -- The box test (GBATEK, BOX_TEST): x, y and z of a corner, and how wide, high and deep the box is; the other corners wrap to halves (our choice)

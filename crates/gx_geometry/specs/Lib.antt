@@ -1,5 +1,3 @@
-pub mod Records
-pub mod RecordsKept
 pub mod Numbers
 pub mod Lights
 pub mod Coordinates

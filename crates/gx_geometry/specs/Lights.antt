@@ -3,7 +3,9 @@ use Rattle.std.specs.Int.{int_div_euclid}
 use Rattle.ds_base.specs.Bits.{bits, bit}
 use Rattle.line_lanes.specs.Matrices.{at, transform4}
 use Rattle.line_lanes.specs.declared.matrices.Matrix.{Matrix}
-use Rattle.gx_geometry.specs.Records.{LightState, MaterialState, NumbersState}
+use Rattle.gx_geometry.specs.declared.numbers.Light.{Light}
+use Rattle.gx_geometry.specs.declared.numbers.Material.{Material}
+use Rattle.gx_geometry.specs.declared.numbers.Numbers.{Numbers}
 use Rattle.gx_geometry.specs.declared.lights.Levels.{Levels}
 use Rattle.gx_geometry.specs.Numbers.{ten, no_light}
 
@@ -35,10 +37,10 @@ half z = int_div_euclid z (pos 2)
 
 -- The levels of a light on a normal: the diffuse one, and the specular one, which is the square of the half vector's, or comes from the table of 128
 -- bytes (GBATEK, SHININESS)
-abbrev pub shine : MaterialState → List ℕ → ℕ → ℕ
+abbrev pub shine : Material → List ℕ → ℕ → ℕ
 shine material table e = if material.by_table then 2 * slice_index table (e * e / 512 / 4) else e * e / 512
 
-unfoldable pub light_levels : MaterialState → List ℕ → LightState → List ℤ → Levels
+unfoldable pub light_levels : Material → List ℕ → Light → List ℤ → Levels
 light_levels material table light n = record {
   diffuse = facing (dot light.x light.y light.z n);
   specular = shine material table (facing (dot (half light.x) (half light.y) (half (light.z -ℤ pos 512)) n));
@@ -49,26 +51,26 @@ abbrev pub channel : ℕ → ℕ → ℕ
 channel k colour = bits (5 * k) 5 colour
 
 -- what a light adds to a channel
-unfoldable pub share : ℕ → MaterialState → ℕ → Levels → ℕ
+unfoldable pub share : ℕ → Material → ℕ → Levels → ℕ
 share k material colour levels =
     (channel k material.specular * channel k colour * levels.specular / 16384)
     + (channel k material.diffuse * channel k colour * levels.diffuse / 16384)
     + (channel k material.ambient * channel k colour / 32)
 
 -- what the light of a number adds to a channel: something where its bit of the attributes in force is 1
-abbrev pub light_at : NumbersState → ℕ → LightState
+abbrev pub light_at : Numbers → ℕ → Light
 light_at s i = slice_index_or s.lights i no_light
 
-unfoldable pub added : NumbersState → List ℤ → ℕ → ℕ → ℕ
+unfoldable pub added : Numbers → List ℤ → ℕ → ℕ → ℕ
 added s n i k =
     if bit i s.attributes then share k s.material (light_at s i).colour (light_levels s.material s.table (light_at s i) n) else 0
 
 -- the colour of a vertex with a normal: in each channel the emission and what the four lights add, held to 31
-unfoldable pub lit_channel : NumbersState → List ℤ → ℕ → ℕ
+unfoldable pub lit_channel : Numbers → List ℤ → ℕ → ℕ
 lit_channel s n k = min 31 (channel k s.material.emission + added s n 0 k + added s n 1 k + added s n 2 k + added s n 3 k)
 
 abbrev pub colour_by : (ℕ → ℕ) → ℕ
 colour_by channels = channels 0 + channels 1 * 2 ^ 5 + channels 2 * 2 ^ 10
 
-unfoldable pub lit_colour : NumbersState → List ℤ → ℕ
+unfoldable pub lit_colour : Numbers → List ℤ → ℕ
 lit_colour s n = colour_by (lit_channel s n)

@@ -4,7 +4,7 @@ use Rattle.ds_base.specs.Bits.{bit}
 use Rattle.gx_matrix.specs.Commands.{clip_of}
 use Rattle.gx_geometry.specs.declared.numbers.Kind.{Kind}
 use Rattle.gx_geometry.specs.declared.numbers.Kind.TheVariants.{Triangles, Quads, TriangleStrip, QuadStrip}
-use Rattle.gx_geometry.specs.Records.{NumbersState}
+use Rattle.gx_geometry.specs.declared.numbers.Numbers.{Numbers}
 use Rattle.gx_geometry.specs.declared.polygons.Vertex.{Vertex}
 use Rattle.gx_geometry.specs.declared.polygons.Polygon.{Polygon}
 use Rattle.gx_geometry.specs.Boxes.{through}
@@ -12,7 +12,7 @@ use Rattle.gx_geometry.specs.Boxes.{through}
 -- The polygons that vertices make (GBATEK, "DS 3D Polygon Definitions by Vertices" and "DS 3D Polygon Attributes")
 
 -- the vertex that a vertex command gives, through the clip matrix, with the colour and the texture coordinates as they are then
-unfoldable pub vertex_of : NumbersState → Vertex
+unfoldable pub vertex_of : Numbers → Vertex
 vertex_of s =
     let c = through s.point (clip_of s.stacks) in
     record { x = c.x; y = c.y; z = c.z; w = c.w; colour = s.colour; s = s.coordinates.s; t = s.coordinates.t }
@@ -32,26 +32,9 @@ completed Quads place = if place % 4 == 3 then Some (place / 4) else None
 completed TriangleStrip place = if nat_lt place 2 then None else Some (place - 2)
 completed QuadStrip place = if nat_lt place 3 || (place % 2 == 0) then None else Some ((place - 3) / 2)
 
--- a vertex that comes, its run's kind, its place in the run, and what a polygon that it completes has
-pub record Arrival : Type 0 where
-  pub vertex : Vertex
-  pub kind : Kind
-  pub place : ℕ
-  pub attributes : ℕ
-  pub texture : ℕ
-  pub palette : ℕ
-  pub viewport : ℕ
-
-abbrev pub arrival_of : NumbersState → Arrival
-arrival_of s = record {
-  vertex = vertex_of s;
-  kind = s.kind;
-  place = s.run - 1;
-  attributes = s.attributes;
-  texture = s.texture;
-  palette = s.palette;
-  viewport = s.viewport;
-}
+-- the place in its run of the last vertex that came, counted from 0; `a` has the numbers as that vertex's command leaves them
+abbrev pub place_of : Numbers → ℕ
+place_of a = a.run - 1
 
 -- how many vertices and polygons a swap takes (GBATEK, "DS 3D Overview")
 abbrev pub most_vertices : ℕ
@@ -86,19 +69,19 @@ no_place = 0xFFFF
 -- Where the vertex of a place in its run stands in the list. Of all vertices that came since the swap the last one completes the polygon, and one of
 -- its run stands as many places before it as it came before it, unless it came before the swap; where more came than the list takes, the last one
 -- stands nowhere, and no polygon is made.
-abbrev pub place_since : List Vertex → Arrival → ℕ → ℕ
+abbrev pub place_since : List Vertex → Numbers → ℕ → ℕ
 place_since came a place =
-    if nat_le (length came) most_vertices && nat_lt a.place (length came + place) then length came + place - (a.place + 1) else no_place
+    if nat_le (length came) most_vertices && nat_lt (place_of a) (length came + place) then length came + place - (place_of a + 1) else no_place
 
 -- the same where it is told where the run's last four vertices stand, the oldest first
-abbrev pub place_among : List ℕ → Arrival → ℕ → ℕ
-place_among four a place = slice_index_or four (place + 3 - a.place) no_place
+abbrev pub place_among : List ℕ → Numbers → ℕ → ℕ
+place_among four a place = slice_index_or four (place + 3 - place_of a) no_place
 
 -- none of a polygon's corners stands nowhere
 unfoldable pub has_corners : (ℕ → ℕ) → List ℕ → Bool
 has_corners stands places = list_all (λ p. not (stands p == no_place)) places
 
-unfoldable pub may_be_seen : (ℕ → ℕ) → List Vertex → Arrival → List ℕ → Bool
+unfoldable pub may_be_seen : (ℕ → ℕ) → List Vertex → Numbers → List ℕ → Bool
 may_be_seen stands came a places =
     let corner = λ (i : ℕ). slice_index_or came (stands (slice_index places i)) no_vertex in
     is_kept a.attributes (determinant (corner 0) (corner 1) (corner 2))
@@ -107,7 +90,7 @@ may_be_seen stands came a places =
 unfoldable pub indices_of : (ℕ → ℕ) → List ℕ → List ℕ
 indices_of stands places = map stands places ++ replicate (4 - length places) 0
 
-unfoldable pub polygon_with : (ℕ → ℕ) → Arrival → List ℕ → Polygon
+unfoldable pub polygon_with : (ℕ → ℕ) → Numbers → List ℕ → Polygon
 polygon_with stands a places = record {
   attributes = a.attributes;
   texture = a.texture;
@@ -118,17 +101,17 @@ polygon_with stands a places = record {
 }
 
 -- the polygon that the last vertex makes, if it does
-abbrev pub polygon_at : (ℕ → ℕ) → List Vertex → Arrival → List ℕ → Option Polygon
+abbrev pub polygon_at : (ℕ → ℕ) → List Vertex → Numbers → List ℕ → Option Polygon
 polygon_at stands came a places =
     if has_corners stands places && may_be_seen stands came a places then Some (polygon_with stands a places) else None
 
-abbrev pub polygon_by : Option ℕ → (ℕ → ℕ) → List Vertex → Arrival → Option Polygon
+abbrev pub polygon_by : Option ℕ → (ℕ → ℕ) → List Vertex → Numbers → Option Polygon
 polygon_by None stands came a = None
 polygon_by (Some k) stands came a = polygon_at stands came a (corners a.kind k)
 
 -- by all vertices that came since the swap, and by where the run's last four stand in the list
-unfoldable pub polygon_of : List Vertex → Arrival → Option Polygon
-polygon_of came a = polygon_by (completed a.kind a.place) (place_since came a) came a
+unfoldable pub polygon_of : List Vertex → Numbers → Option Polygon
+polygon_of came a = polygon_by (completed a.kind (place_of a)) (place_since came a) came a
 
-unfoldable pub polygon_among : List ℕ → List Vertex → Arrival → Option Polygon
-polygon_among four came a = polygon_by (completed a.kind a.place) (place_among four a) came a
+unfoldable pub polygon_among : List ℕ → List Vertex → Numbers → Option Polygon
+polygon_among four came a = polygon_by (completed a.kind (place_of a)) (place_among four a) came a

@@ -1,34 +1,159 @@
-use Rattle.std.specs.Prelude.{FitsSigned, ◌≡◌, ◌<◌, ◌^◌, length, map, pos, slice_index}
+use Rattle.std.specs.Prelude.{ℕ, ℤ, nat_le, FitsSigned, Bool, List, [], ◌∷◌, ◌≡◌, ◌<◌, ◌^◌, length, pos, slice_index, slice_index_or}
 use Rattle.std.specs.Int.{w16, w32}
+use Rattle.ds_state.specs.Formats.{Format, number_code, flag_code, signed_half_code, array, done, ◌>>=◌, one_field, its, each, any, at_most, signed_format}
+use Rattle.gx_matrix.specs.Saved.{stacks_format}
 use Rattle.gx_geometry.specs.declared.polygons.Polygon.{Polygon}
 use Rattle.gx_geometry.specs.declared.polygons.Vertex.{Vertex}
 use Rattle.gx_geometry.specs.declared.numbers.Light.{Light}
+use Rattle.gx_geometry.specs.declared.numbers.Numbers.{Numbers}
 use Rattle.gx_geometry.specs.declared.numbers.saved.Current.{Current}
 use Rattle.gx_geometry.specs.declared.numbers.saved.Lighting.{Lighting}
 use Rattle.gx_geometry.specs.declared.results.Results.{Results}
-use Rattle.gx_geometry.specs.RecordsKept.{coordinates_seen, light_seen, material_seen, point_seen}
-use Rattle.gx_geometry.specs.Saved.{CurrentNumbers, LightingNumbers, TestResults}
+use Rattle.gx_geometry.specs.Bounds.{is_told}
+use Rattle.gx_geometry.specs.Numbers.{kind_of, no_light}
+use Rattle.gx_geometry.specs.Polygons.{most_polygons}
+use Rattle.gx_geometry.specs.Saved.{holds_recent, light_format, lists_format, polygon_format, run_kind_number, signed_at, vertex_format}
+use Rattle.gx_geometry.specs.States.{GeometryState, OutcomeState}
 
--- The parts of the numbers that the code takes from bytes (our choice of form). No public call speaks of it.
+-- The parts in which the code takes the engine from bytes (our choice of form). No public call speaks of them.
 
-abbrev pub current_seen : Current → CurrentNumbers
-current_seen n = record {
-  colour = n.colour;
-  point = point_seen n.point;
-  raw = coordinates_seen n.raw;
-  coordinates = coordinates_seen n.coordinates;
-  set = n.set;
-  attributes = n.attributes;
-  texture = n.texture;
-  palette = n.palette;
-  viewport = n.viewport;
+-- what vertices and polygons have that come next
+abbrev pub current_numbers : Numbers → Current
+current_numbers s = record {
+  colour = s.colour;
+  point = s.point;
+  raw = s.raw;
+  coordinates = s.coordinates;
+  set = s.set;
+  attributes = s.attributes;
+  texture = s.texture;
+  palette = s.palette;
+  viewport = s.viewport;
 }
 
-abbrev pub lighting_seen : Lighting → LightingNumbers
-lighting_seen n = record { material = material_seen n.material; table = n.table; lights = map light_seen n.lights }
+unfoldable pub current_format : Format Current Current
+current_format = do
+  colour ← one_field (number_code 2) (λ n. n.colour) (at_most 0x7FFF)
+  x ← one_field signed_half_code (λ n. n.point.x) any
+  y ← one_field signed_half_code (λ n. n.point.y) any
+  z ← one_field signed_half_code (λ n. n.point.z) any
+  raw_s ← one_field signed_half_code (λ n. n.raw.s) any
+  raw_t ← one_field signed_half_code (λ n. n.raw.t) any
+  s ← one_field signed_half_code (λ n. n.coordinates.s) any
+  t ← one_field signed_half_code (λ n. n.coordinates.t) any
+  set ← one_field (number_code 4) (λ n. n.set) any
+  attributes ← one_field (number_code 4) (λ n. n.attributes) any
+  texture ← one_field (number_code 4) (λ n. n.texture) any
+  palette ← one_field (number_code 4) (λ n. n.palette) (at_most 0x1FFF)
+  viewport ← one_field (number_code 4) (λ n. n.viewport) any
+  done (record {
+    colour = colour;
+    point = record { x = x; y = y; z = z };
+    raw = record { s = raw_s; t = raw_t };
+    coordinates = record { s = s; t = t };
+    set = set;
+    attributes = attributes;
+    texture = texture;
+    palette = palette;
+    viewport = viewport;
+  })
+
+-- what lighting asks
+abbrev pub lighting_numbers : Numbers → Lighting
+lighting_numbers s = record { material = s.material; table = s.table; lights = s.lights }
+
+unfoldable pub lighting_format : Format Lighting Lighting
+lighting_format = do
+  diffuse ← one_field (number_code 2) (λ n. n.material.diffuse) (at_most 0x7FFF)
+  ambient ← one_field (number_code 2) (λ n. n.material.ambient) (at_most 0x7FFF)
+  specular ← one_field (number_code 2) (λ n. n.material.specular) (at_most 0x7FFF)
+  emission ← one_field (number_code 2) (λ n. n.material.emission) (at_most 0x7FFF)
+  by_table ← one_field flag_code (λ n. n.material.by_table) any
+  table ← one_field (array 128) (λ n. n.table) any
+  first ← its light_format (λ n. slice_index_or n.lights 0 no_light)
+  second ← its light_format (λ n. slice_index_or n.lights 1 no_light)
+  third ← its light_format (λ n. slice_index_or n.lights 2 no_light)
+  fourth ← its light_format (λ n. slice_index_or n.lights 3 no_light)
+  done (record {
+    material = record { diffuse = diffuse; ambient = ambient; specular = specular; emission = emission; by_table = by_table };
+    table = table;
+    lights = first ∷ second ∷ third ∷ fourth ∷ [];
+  })
+
+-- the results of tests
+pub record TestResults : Type 0 where
+  pub position : List ℤ
+  pub vector : List ℤ
+  pub inside : Bool
+
+abbrev pub test_results : OutcomeState → TestResults
+test_results o = record { position = o.position; vector = o.vector; inside = o.inside }
+
+unfoldable pub results_format : Format TestResults TestResults
+results_format = do
+  position ← each 4 signed_format (λ r. r.position)
+  a ← one_field signed_half_code (λ r. signed_at r.vector 0) any
+  b ← one_field signed_half_code (λ r. signed_at r.vector 1) any
+  c ← one_field signed_half_code (λ r. signed_at r.vector 2) any
+  inside ← one_field flag_code (λ r. r.inside) any
+  done (record { position = position; vector = a ∷ b ∷ c ∷ []; inside = inside })
 
 abbrev pub results_seen : Results → TestResults
 results_seen r = record { position = r.position; vector = r.vector; inside = r.inside }
+
+-- a run has no more vertices than there were ticks
+abbrev pub run_until : ℕ → ℕ → Bool
+run_until at run = nat_le run at
+
+-- the whole by these parts
+unfoldable pub geometry_parts : Format GeometryState GeometryState
+geometry_parts = do
+  stacks ← its stacks_format (λ g. g.numbers.stacks)
+  overflow ← one_field flag_code (λ g. g.outcome.overflow) any
+  parameter ← one_field (number_code 4) (λ g. g.numbers.parameter) any
+  current ← its current_format (λ g. current_numbers g.numbers)
+  lighting ← its lighting_format (λ g. lighting_numbers g.numbers)
+  kind ← one_field (number_code 1) (λ g. run_kind_number g.numbers.kind) (at_most 3)
+  run ← one_field (number_code 8) (λ g. g.numbers.run) run_until
+  first ← one_field (number_code 2) (λ g. slice_index g.outcome.recent 0) (λ at place. is_told run 3 place)
+  second ← one_field (number_code 2) (λ g. slice_index g.outcome.recent 1) (λ at place. is_told run 2 place)
+  third ← one_field (number_code 2) (λ g. slice_index g.outcome.recent 2) (λ at place. is_told run 1 place)
+  results ← its results_format (λ g. test_results g.outcome)
+  vertex_count ← one_field (number_code 4) (λ g. length g.outcome.vertices) (holds_recent first second third)
+  polygon_count ← one_field (number_code 4) (λ g. length g.outcome.polygons) (at_most most_polygons)
+  vertices ← each vertex_count vertex_format (λ g. g.outcome.vertices)
+  polygons ← each polygon_count polygon_format (λ g. g.outcome.polygons)
+  last ← its lists_format (λ g. g.last)
+  done (record {
+    numbers = record {
+      stacks = stacks;
+      colour = current.colour;
+      point = current.point;
+      raw = current.raw;
+      coordinates = current.coordinates;
+      set = current.set;
+      attributes = current.attributes;
+      texture = current.texture;
+      palette = current.palette;
+      viewport = current.viewport;
+      material = lighting.material;
+      table = lighting.table;
+      lights = lighting.lights;
+      kind = kind_of kind;
+      run = run;
+      parameter = parameter;
+    };
+    outcome = record {
+      position = results.position;
+      vector = results.vector;
+      inside = results.inside;
+      vertices = vertices;
+      polygons = polygons;
+      overflow = overflow;
+      recent = first ∷ second ∷ third ∷ [];
+    };
+    last = last;
+  })
 
 -- What the code's types tell of a light, of a vertex and of a polygon.
 abbrev pub dark_light : Light

@@ -7,9 +7,12 @@ use Rattle.gx_geometry.specs.declared.polygons.Vertex.{Vertex}
 use Rattle.gx_geometry.specs.declared.polygons.Polygon.{Polygon}
 use Rattle.gx_geometry.specs.BoundLaws.{ArePlaces, AreTold}
 use Rattle.gx_geometry.specs.Polygons.{most_vertices, most_polygons}
-use Rattle.gx_geometry.specs.Records.{LightState}
+use Rattle.gx_geometry.specs.declared.numbers.Light.{Light}
 use Rattle.gx_geometry.specs.States.{GeometryState, Swapped, no_swap}
-use Rattle.gx_geometry.specs.Saved.{CurrentNumbers, LightingNumbers, TestResults, current_numbers, geometry_format, has_corner_count, lighting_numbers, may_be_fourth, signed_at, test_results}
+use Rattle.gx_geometry.specs.declared.numbers.saved.Current.{Current}
+use Rattle.gx_geometry.specs.declared.numbers.saved.Lighting.{Lighting}
+use Rattle.gx_geometry.specs.Saved.{geometry_format, has_corner_count, may_be_fourth, signed_at}
+use Rattle.gx_geometry.specs.SavedKept.{TestResults, current_numbers, lighting_numbers, test_results}
 
 -- What holds of each number of the geometry engine, so that it has a spelling in bytes, and that its bytes are read as it was.
 
@@ -36,7 +39,7 @@ pub record IsPolygon (p : Polygon) : Type 0 where
   pub fourth : slice_index p.indices 3 < 2 ^ 16
   pub unused : may_be_fourth p.corners 0 (slice_index p.indices 3) ≡ true
 
-pub record AreCurrent (n : CurrentNumbers) : Type 0 where
+pub record AreCurrent (n : Current) : Type 0 where
   pub colour : n.colour < 2 ^ 15
   pub x : FitsSigned w16 n.point.x
   pub y : FitsSigned w16 n.point.y
@@ -51,13 +54,13 @@ pub record AreCurrent (n : CurrentNumbers) : Type 0 where
   pub palette : n.palette < 2 ^ 13
   pub viewport : n.viewport < 2 ^ 32
 
-pub record IsLight (l : LightState) : Type 0 where
+pub record IsLight (l : Light) : Type 0 where
   pub x : FitsSigned w32 l.x
   pub y : FitsSigned w32 l.y
   pub z : FitsSigned w32 l.z
   pub colour : l.colour < 2 ^ 15
 
-pub record AreLighting (n : LightingNumbers) : Type 0 where
+pub record AreLighting (n : Lighting) : Type 0 where
   pub diffuse : n.material.diffuse < 2 ^ 15
   pub ambient : n.material.ambient < 2 ^ 15
   pub specular : n.material.specular < 2 ^ 15

@@ -4,7 +4,7 @@ use Rattle.gx_matrix.specs.Commands.{clip_of}
 use Rattle.gx_matrix.specs.declared.commands.GeometryCommand.{GeometryCommand}
 use Rattle.gx_matrix.specs.declared.commands.GeometryCommand.TheVariants.{BeginVtxs, BoxTest, PosTest, VecTest}
 use Rattle.gx_geometry.specs.declared.boxes.Clipped.{Clipped}
-use Rattle.gx_geometry.specs.Records.{NumbersState}
+use Rattle.gx_geometry.specs.declared.numbers.Numbers.{Numbers}
 use Rattle.gx_geometry.specs.declared.polygons.Vertex.{Vertex}
 use Rattle.gx_geometry.specs.declared.polygons.Polygon.{Polygon}
 use Rattle.gx_geometry.specs.declared.results.Results.{Results}
@@ -12,7 +12,7 @@ use Rattle.gx_geometry.specs.Numbers.{numbers_at_boot, point_by_halves}
 use Rattle.gx_geometry.specs.Boxes.{through, box_test}
 use Rattle.gx_geometry.specs.Coordinates.{vector_test}
 use Rattle.gx_geometry.specs.Changes.{numbers_after, gives_vertex}
-use Rattle.gx_geometry.specs.Polygons.{Arrival, arrival_of, no_place, polygon_among, most_vertices, most_polygons}
+use Rattle.gx_geometry.specs.Polygons.{vertex_of, no_place, polygon_among, most_vertices, most_polygons}
 use Rattle.gx_geometry.specs.ListLaws.{GeometryAct, Command, ClearError, ClearOverflow, AreLists, IsOverflow}
 use Rattle.gx_geometry.specs.Lists.{numbers_cleared}
 
@@ -42,7 +42,7 @@ pub record OutcomeState : Type 0 where
   pub recent : List ℕ
 
 pub record GeometryState : Type 0 where
-  pub numbers : NumbersState
+  pub numbers : Numbers
   pub outcome : OutcomeState
   pub last : Swapped
 
@@ -87,7 +87,7 @@ results_of o = record {
 abbrev pub clip_words : Clipped → List ℤ
 clip_words c = c.x ∷ c.y ∷ c.z ∷ c.w ∷ []
 
-unfoldable pub tested : GeometryCommand → List ℕ → NumbersState → OutcomeState → OutcomeState
+unfoldable pub tested : GeometryCommand → List ℕ → Numbers → OutcomeState → OutcomeState
 tested BoxTest params s o = record o { inside = box_test params (clip_of s.stacks) }
 tested PosTest params s o = record o { position = clip_words (through (point_by_halves params) (clip_of s.stacks)) }
 tested VecTest params s o = record o { vector = vector_test (slice_index params 0) s.stacks.pose.vector }
@@ -114,16 +114,16 @@ vertex_dropped o = record (overflown o) { recent = then_recent no_place o.recent
 abbrev pub four_recent : OutcomeState → List ℕ
 four_recent o = slice_index o.recent 0 ∷ slice_index o.recent 1 ∷ slice_index o.recent 2 ∷ length o.vertices ∷ []
 
-unfoldable pub arrived : Arrival → OutcomeState → OutcomeState
+unfoldable pub arrived : Numbers → OutcomeState → OutcomeState
 arrived a o =
     if nat_lt (length o.vertices) most_vertices
-    then polygon_added (polygon_among (four_recent o) (o.vertices ++ a.vertex ∷ []) a) (vertex_added a.vertex o)
+    then polygon_added (polygon_among (four_recent o) (o.vertices ++ vertex_of a ∷ []) a) (vertex_added (vertex_of a) o)
     else vertex_dropped o
 
 -- after a command: its test, by the numbers before it, and its vertex, by those after it
-abbrev pub outcome_after : GeometryCommand → List ℕ → NumbersState → OutcomeState → OutcomeState
+abbrev pub outcome_after : GeometryCommand → List ℕ → Numbers → OutcomeState → OutcomeState
 outcome_after command params s o =
-    if gives_vertex command then arrived (arrival_of (numbers_after command params s)) (tested command params s o) else tested command params s o
+    if gives_vertex command then arrived (numbers_after command params s) (tested command params s o) else tested command params s o
 
 -- the engine after a command
 unfoldable pub geometry_after : GeometryCommand → List ℕ → GeometryState → GeometryState

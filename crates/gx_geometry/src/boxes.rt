@@ -1,7 +1,6 @@
 //! Vertices through the clip matrix, and the box test.
 
 ghost use Rattle.std.specs.Prelude.{◌≡◌, neg_ℤ, length};
-ghost use Rattle.gx_geometry.specs.RecordsKept.{point_seen};
 ghost use Rattle.gx_geometry.specs.Boxes.{through, far_side, corner, corners_of, outside, all_outside, box_test};
 
 use crate::exact::wrapped_sum;
@@ -41,7 +40,7 @@ pub enum Plane {
 /// A vertex through the clip matrix.
 #[tactic(auto, using(gx_matrix::proofs::Sums::casts), unfolding(crate::specs::Boxes::through))]
 pub fn through(p: Point, m: &Matrix) -> Clipped
-    ensures { result ≡ through (point_seen p) m.now }
+    ensures { result ≡ through p m.now }
 {
     let v = transform4([p.x as i32, p.y as i32, p.z as i32, 0x1000], m);
     Clipped {

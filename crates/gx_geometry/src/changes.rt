@@ -5,7 +5,6 @@ ghost use Rattle.ds_base.specs.Bits.{bits, bit};
 ghost use Rattle.gx_matrix.specs.CommandTable.{HasParameters};
 ghost use Rattle.gx_geometry.specs.Coordinates.{transform_mode};
 ghost use Rattle.gx_geometry.specs.BoundLaws.{AreSmall};
-ghost use Rattle.gx_geometry.specs.RecordsKept.{numbers_seen};
 ghost use Rattle.gx_geometry.specs.Changes.{gives_vertex, numbers_drawn, numbers_lit, numbers_after, normal_given, coordinates_given, vertex_given, diffuse_given, specular_given, light_pointed, light_coloured, run_begun};
 
 use crate::coordinates::{by_coordinates, by_normal, by_vertex};
@@ -67,7 +66,7 @@ pub fn gives_vertex(command: GeometryCommand) -> bool
 impl Numbers {
     #[tactic(auto, unfolding(crate::specs::Changes::normal_given))]
     pub fn give_normal(&mut self, word: u32)
-        ensures { numbers_seen self.new ≡ normal_given word (numbers_seen self.old) }
+        ensures { self.new ≡ normal_given word self.old }
     {
         self.colour = lit_colour(self, &turned(word, &self.stacks.vector()));
         if transform_mode(self.texture) == 2 {
@@ -77,7 +76,7 @@ impl Numbers {
 
     #[tactic(auto, using(gx_matrix::proofs::Sums::casts), unfolding(crate::specs::Changes::coordinates_given))]
     pub fn give_coordinates(&mut self, word: u32)
-        ensures { numbers_seen self.new ≡ coordinates_given word (numbers_seen self.old) }
+        ensures { self.new ≡ coordinates_given word self.old }
     {
         let raw = Coordinates {
             s: low_half(word),
@@ -96,7 +95,7 @@ impl Numbers {
         requires parameters { HasParameters command params.now }
         requires some { 1 ≤ length params.now }
         requires run { self.old.run ≤ 2 ^ 56 }
-        ensures { numbers_seen self.new ≡ vertex_given command params.now (numbers_seen self.old) }
+        ensures { self.new ≡ vertex_given command params.now self.old }
     {
         self.point = point_after(command, params, self.point);
         if transform_mode(self.texture) == 3 {
@@ -107,7 +106,7 @@ impl Numbers {
 
     #[tactic(auto, unfolding(crate::specs::Changes::diffuse_given))]
     pub fn give_diffuse(&mut self, word: u32)
-        ensures { numbers_seen self.new ≡ diffuse_given word (numbers_seen self.old) }
+        ensures { self.new ≡ diffuse_given word self.old }
     {
         self.material.diffuse = low_colour(word);
         self.material.ambient = high_colour(word);
@@ -118,7 +117,7 @@ impl Numbers {
 
     #[tactic(auto, unfolding(crate::specs::Changes::specular_given))]
     pub fn give_specular(&mut self, word: u32)
-        ensures { numbers_seen self.new ≡ specular_given word (numbers_seen self.old) }
+        ensures { self.new ≡ specular_given word self.old }
     {
         self.material.specular = low_colour(word);
         self.material.emission = high_colour(word);
@@ -127,7 +126,7 @@ impl Numbers {
 
     #[tactic(auto, using(gx_matrix::proofs::Sums::casts), unfolding(crate::specs::Changes::light_pointed))]
     pub fn point_light(&mut self, word: u32)
-        ensures { numbers_seen self.new ≡ light_pointed word (numbers_seen self.old) }
+        ensures { self.new ≡ light_pointed word self.old }
     {
         let i = light_number(word);
         let [x, y, z, _] = turned(word, &self.stacks.vector());
@@ -137,7 +136,7 @@ impl Numbers {
 
     #[tactic(auto, using(gx_matrix::proofs::Sums::casts), unfolding(crate::specs::Changes::light_coloured))]
     pub fn colour_light(&mut self, word: u32)
-        ensures { numbers_seen self.new ≡ light_coloured word (numbers_seen self.old) }
+        ensures { self.new ≡ light_coloured word self.old }
     {
         let i = light_number(word);
         let light = self.light(i);
@@ -147,7 +146,7 @@ impl Numbers {
 
     #[tactic(auto, unfolding(crate::specs::Changes::run_begun))]
     pub fn begin(&mut self, word: u32)
-        ensures { numbers_seen self.new ≡ run_begun word (numbers_seen self.old) }
+        ensures { self.new ≡ run_begun word self.old }
     {
         self.kind = kind_of(word & 3);
         self.run = 0;
@@ -159,7 +158,7 @@ impl Numbers {
     fn change_drawn(&mut self, command: GeometryCommand, params: &[u32])
         requires parameters { HasParameters command params.now }
         requires run { self.old.run ≤ 2 ^ 56 }
-        ensures { numbers_seen self.new ≡ numbers_drawn command params.now (numbers_seen self.old) }
+        ensures { self.new ≡ numbers_drawn command params.now self.old }
     {
         match command {
             GeometryCommand::BeginVtxs => self.begin(params[0]),
@@ -181,7 +180,7 @@ impl Numbers {
     fn change_lit(&mut self, command: GeometryCommand, params: &[u32])
         requires parameters { HasParameters command params.now }
         requires run { self.old.run ≤ 2 ^ 56 }
-        ensures { numbers_seen self.new ≡ numbers_lit command params.now (numbers_seen self.old) }
+        ensures { self.new ≡ numbers_lit command params.now self.old }
     {
         match command {
             GeometryCommand::Normal => self.give_normal(params[0]),
@@ -199,7 +198,7 @@ impl Numbers {
     fn change(&mut self, command: GeometryCommand, params: &[u32])
         requires parameters { HasParameters command params.now }
         requires run { self.old.run ≤ 2 ^ 56 }
-        ensures { numbers_seen self.new ≡ numbers_after command params.now (numbers_seen self.old) }
+        ensures { self.new ≡ numbers_after command params.now self.old }
     {
         match command {
             GeometryCommand::Color => self.colour = low_colour(params[0]),
@@ -215,8 +214,8 @@ impl Numbers {
     pub fn renew(&mut self, command: GeometryCommand, params: &[u32])
         requires parameters { HasParameters command params.now }
         requires run { self.old.run ≤ 2 ^ 56 }
-        ensures value { numbers_seen self.new ≡ numbers_after command params.now (numbers_seen self.old) }
-        ensures small { AreSmall (numbers_seen self.old) → AreSmall (numbers_seen self.new) }
+        ensures value { self.new ≡ numbers_after command params.now self.old }
+        ensures small { AreSmall self.old → AreSmall self.new }
     {
         self.change(command, params);
     }

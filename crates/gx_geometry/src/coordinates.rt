@@ -4,7 +4,6 @@ ghost use Rattle.std.specs.Prelude.{◌≡◌, ◌<◌, ◌/◌, ◌%◌, ◌^�
 ghost use Rattle.std.specs.Int.{int_wrap, w16, w32, w64, cast_signed, cast_unsigned};
 ghost use Rattle.line_lanes.specs.Matrices.{cell};
 ghost use Rattle.gx_geometry.specs.Numbers.{ten};
-ghost use Rattle.gx_geometry.specs.RecordsKept.{coordinates_seen, point_seen};
 ghost use Rattle.gx_geometry.specs.Coordinates.{with_three, half_of_sum, coordinate_given, coordinate_moved, by_coordinates, by_normal, by_vertex, signed_13, tested_cell, vector_test};
 
 use crate::exact::{product, wrapped_sum};
@@ -65,7 +64,7 @@ fn low_of(word: i32) -> i16
 
 #[tactic(auto, using(crate::proofs::Halves::low_halves))]
 fn coordinate_given(raw: Coordinates, column: [i32; 4]) -> i16
-    ensures { result ≡ coordinate_given (coordinates_seen raw) column }
+    ensures { result ≡ coordinate_given raw column }
 {
     low_of(dot4([raw.s as i32, raw.t as i32, 1, 1], column))
 }
@@ -73,7 +72,7 @@ fn coordinate_given(raw: Coordinates, column: [i32; 4]) -> i16
 /// The coordinates of mode 1.
 #[tactic(auto, using(gx_matrix::proofs::Sums::casts), unfolding(crate::specs::Coordinates::by_coordinates))]
 pub fn by_coordinates(raw: Coordinates, m: &Matrix) -> Coordinates
-    ensures { coordinates_seen result ≡ by_coordinates (coordinates_seen raw) m.now }
+    ensures { result ≡ by_coordinates raw m.now }
 {
     Coordinates {
         s: coordinate_given(raw, m.column(0)),
@@ -100,7 +99,7 @@ fn by_normal_at(word: u32, m: &Matrix, j: usize, base: i16) -> i16
 /// The coordinates of mode 2, which a normal moves.
 #[tactic(auto, using(gx_matrix::proofs::Sums::casts), unfolding(crate::specs::Coordinates::by_normal))]
 pub fn by_normal(word: u32, raw: Coordinates, m: &Matrix) -> Coordinates
-    ensures { coordinates_seen result ≡ by_normal word (coordinates_seen raw) m.now }
+    ensures { result ≡ by_normal word raw m.now }
 {
     Coordinates {
         s: by_normal_at(word, m, 0, raw.s),
@@ -127,7 +126,7 @@ fn by_vertex_at(p: Point, m: &Matrix, j: usize, base: i16) -> i16
 /// The coordinates of mode 3, which a vertex moves.
 #[tactic(auto, using(gx_matrix::proofs::Sums::casts), unfolding(crate::specs::Coordinates::by_vertex))]
 pub fn by_vertex(p: Point, raw: Coordinates, m: &Matrix) -> Coordinates
-    ensures { coordinates_seen result ≡ by_vertex (point_seen p) (coordinates_seen raw) m.now }
+    ensures { result ≡ by_vertex p raw m.now }
 {
     Coordinates {
         s: by_vertex_at(p, m, 0, raw.s),

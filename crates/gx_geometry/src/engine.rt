@@ -5,7 +5,6 @@ ghost use Rattle.gx_matrix.specs.CommandTable.{command_of, HasParameters, IsComm
 ghost use Rattle.gx_geometry.specs.Numbers.{numbers_at_boot};
 ghost use Rattle.gx_geometry.specs.States.{GeometryState, geometry_at_boot, geometry_after, results_of, swapped, AreListsSince, IsOverflowSince, geometry_error_cleared, overflow_cleared};
 ghost use Rattle.gx_geometry.specs.BoundLaws.{AreSmall, AreLimited, IsGeometry};
-ghost use Rattle.gx_geometry.specs.RecordsKept.{numbers_seen};
 
 mod saved;
 
@@ -30,20 +29,19 @@ pub struct Geometry {
 
 impl Model for Geometry {
     ghost use Rattle.gx_geometry.specs.BoundLaws.{AreSmall, AreLimited, AreTold};
-    ghost use Rattle.gx_geometry.specs.RecordsKept.{numbers_seen};
     ghost use Rattle.gx_geometry.specs.States.{GeometryState};
 
     ghost Value = { GeometryState };
 
-    ghost view = { λ g. record { numbers = numbers_seen g.numbers; outcome = g.outcome; last = g.last } };
+    ghost view = { λ g. record { numbers = g.numbers; outcome = g.outcome; last = g.last } };
 
-    ghost invariant = { λ g. AreSmall (numbers_seen g.numbers) × AreLimited g.last.vertices g.last.polygons
+    ghost invariant = { λ g. AreSmall g.numbers × AreLimited g.last.vertices g.last.polygons
         × AreTold g.numbers.run g.outcome.recent };
 }
 
 #[tactic(auto, unfolding(crate::specs::Numbers::numbers_at_boot, crate::specs::Numbers::no_table))]
 fn numbers_at_boot() -> Numbers
-    ensures { numbers_seen result ≡ numbers_at_boot }
+    ensures { result ≡ numbers_at_boot }
 {
     let coordinates = Coordinates { s: 0, t: 0 };
     let light = Light {

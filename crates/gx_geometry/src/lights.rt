@@ -1,7 +1,6 @@
 //! Lighting: the colour of a normal (GBATEK, "DS 3D Polygon Light Parameters").
 
 ghost use Rattle.std.specs.Prelude.{◌≡◌, ◌<◌, ◌≤◌, ◌*◌, ◌/◌, ◌^◌, [], ◌∷◌, ◌-ℤ◌, ◌≤ℤ◌, pos, negsuc};
-ghost use Rattle.gx_geometry.specs.RecordsKept.{light_seen, material_seen, numbers_seen};
 ghost use Rattle.gx_geometry.specs.Lights.{turned, dot, facing, half, shine, light_levels, channel, share, added, lit_channel, lit_colour};
 
 use crate::exact::{product, sum};
@@ -76,7 +75,7 @@ fn half_of(z: i64) -> i32
 
 fn shine(material: &Material, table: &[u8; 128], e: u16) -> u16
     requires { e ≤ 511 }
-    ensures value { result ≡ shine (material_seen material.now) table.now e }
+    ensures value { result ≡ shine material.now table.now e }
     ensures within { result ≤ 510 }
 {
     let square = squared(e);
@@ -98,7 +97,7 @@ fn squared(e: u16) -> u16
 
 #[tactic(auto, using(gx_matrix::proofs::Sums::casts), unfolding(crate::specs::Lights::light_levels))]
 fn light_levels(material: &Material, table: &[u8; 128], light: Light, n: &[i32; 4]) -> Levels
-    ensures value { result ≡ light_levels (material_seen material.now) table.now (light_seen light) n.now }
+    ensures value { result ≡ light_levels material.now table.now light n.now }
     ensures diffuse { result.diffuse ≤ 511 }
     ensures specular { result.specular ≤ 510 }
 {
@@ -148,7 +147,7 @@ fn share(k: u8, material: &Material, colour: u16, levels: Levels) -> u16
     requires k { k < 3 }
     requires diffuse { levels.diffuse ≤ 511 }
     requires specular { levels.specular ≤ 510 }
-    ensures value { result ≡ share k (material_seen material.now) colour levels }
+    ensures value { result ≡ share k material.now colour levels }
     ensures within { result ≤ 93 }
 {
     let light = channel(k, colour);
@@ -161,10 +160,10 @@ fn share(k: u8, material: &Material, colour: u16, levels: Levels) -> u16
 #[tactic(auto, unfolding(crate::specs::Lights::added))]
 fn added(s: &Numbers, n: &[i32; 4], i: u8) -> [u16; 3]
     requires { i < 4 }
-    ensures value { result ≡ added (numbers_seen s.now) n.now i 0 ∷ added (numbers_seen s.now) n.now i 1 ∷ added (numbers_seen s.now) n.now i 2 ∷ [] }
-    ensures red { added (numbers_seen s.now) n.now i 0 ≤ 93 }
-    ensures green { added (numbers_seen s.now) n.now i 1 ≤ 93 }
-    ensures blue { added (numbers_seen s.now) n.now i 2 ≤ 93 }
+    ensures value { result ≡ added s.now n.now i 0 ∷ added s.now n.now i 1 ∷ added s.now n.now i 2 ∷ [] }
+    ensures red { added s.now n.now i 0 ≤ 93 }
+    ensures green { added s.now n.now i 1 ≤ 93 }
+    ensures blue { added s.now n.now i 2 ≤ 93 }
 {
     if (s.attributes >> i) & 1 == 0 {
         return [0, 0, 0];
@@ -182,11 +181,11 @@ fn added(s: &Numbers, n: &[i32; 4], i: u8) -> [u16; 3]
 #[tactic(auto, unfolding(crate::specs::Lights::lit_channel))]
 fn lit_channel(s: &Numbers, n: &[i32; 4], k: u8, zero: u16, one: u16, two: u16, three: u16) -> u16
     requires k { k < 3 }
-    requires zero { (zero ≡ added (numbers_seen s.now) n.now 0 k) × (zero ≤ 93) }
-    requires one { (one ≡ added (numbers_seen s.now) n.now 1 k) × (one ≤ 93) }
-    requires two { (two ≡ added (numbers_seen s.now) n.now 2 k) × (two ≤ 93) }
-    requires three { (three ≡ added (numbers_seen s.now) n.now 3 k) × (three ≤ 93) }
-    ensures value { result ≡ lit_channel (numbers_seen s.now) n.now k }
+    requires zero { (zero ≡ added s.now n.now 0 k) × (zero ≤ 93) }
+    requires one { (one ≡ added s.now n.now 1 k) × (one ≤ 93) }
+    requires two { (two ≡ added s.now n.now 2 k) × (two ≤ 93) }
+    requires three { (three ≡ added s.now n.now 3 k) × (three ≤ 93) }
+    ensures value { result ≡ lit_channel s.now n.now k }
     ensures within { result ≤ 31 }
 {
     (channel(k, s.material.emission) as u16 + zero + one + two + three).min(31)
@@ -195,7 +194,7 @@ fn lit_channel(s: &Numbers, n: &[i32; 4], k: u8, zero: u16, one: u16, two: u16, 
 /// The colour of a vertex with a normal, which is turned by the vector matrix already.
 #[tactic(auto, unfolding(crate::specs::Lights::lit_colour))]
 pub fn lit_colour(s: &Numbers, n: &[i32; 4]) -> u16
-    ensures { result ≡ lit_colour (numbers_seen s.now) n.now }
+    ensures { result ≡ lit_colour s.now n.now }
 {
     let [red0, green0, blue0] = added(s, n, 0);
     let [red1, green1, blue1] = added(s, n, 1);

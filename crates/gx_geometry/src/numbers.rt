@@ -4,7 +4,6 @@ ghost use Rattle.std.specs.Prelude.{◌≡◌, ◌<◌, ◌≤◌, ◌*◌, ℤ,
 ghost use Rattle.gx_matrix.specs.Commands.{signed_bits};
 ghost use Rattle.gx_matrix.specs.CommandTable.{HasParameters};
 ghost use Rattle.gx_geometry.specs.Lights.{light_at};
-ghost use Rattle.gx_geometry.specs.RecordsKept.{light_seen, numbers_seen, point_seen};
 ghost use Rattle.gx_geometry.specs.Numbers.{low_half, high_half, kind_of, point_by_halves, point_by_tens, point_moved, point_by_word, point_after};
 
 mod saved;
@@ -117,7 +116,7 @@ impl Numbers {
     /// One of the lights.
     pub fn light(&self, i: u8) -> Light
         requires { i < 4 }
-        ensures { light_seen result ≡ light_at (numbers_seen self.now) i }
+        ensures { result ≡ light_at self.now i }
     {
         self.lights[i as usize]
     }
@@ -125,7 +124,7 @@ impl Numbers {
     /// Another light in its place.
     pub fn put_light(&mut self, i: u8, light: Light)
         requires { i < 4 }
-        ensures { numbers_seen self.new ≡ record (numbers_seen self.old) { lights = slice_set (numbers_seen self.old).lights i (light_seen light) } }
+        ensures { self.new ≡ record self.old { lights = slice_set self.old.lights i light } }
     {
         self.lights[i as usize] = light;
     }
@@ -180,7 +179,7 @@ fn times_64(number: i16) -> i16
 #[tactic(auto, using(gx_matrix::proofs::Sums::casts), unfolding(crate::specs::Numbers::point_by_halves))]
 pub fn point_by_halves(params: &[u32]) -> Point
     requires { length params.now ≡ 2 }
-    ensures { point_seen result ≡ point_by_halves params.now }
+    ensures { result ≡ point_by_halves params.now }
 {
     Point {
         x: low_half(params[0]),
@@ -191,7 +190,7 @@ pub fn point_by_halves(params: &[u32]) -> Point
 
 #[tactic(auto, using(gx_matrix::proofs::Sums::casts), unfolding(crate::specs::Numbers::point_by_tens))]
 fn point_by_tens(word: u32) -> Point
-    ensures { point_seen result ≡ point_by_tens word }
+    ensures { result ≡ point_by_tens word }
 {
     Point {
         x: times_64(ten(0, word)),
@@ -202,7 +201,7 @@ fn point_by_tens(word: u32) -> Point
 
 #[tactic(auto, using(gx_matrix::proofs::Sums::casts), unfolding(crate::specs::Numbers::point_moved))]
 fn point_moved(word: u32, p: Point) -> Point
-    ensures { point_seen result ≡ point_moved word (point_seen p) }
+    ensures { result ≡ point_moved word p }
 {
     Point {
         x: wrapped_sum(p.x, ten(0, word)),
@@ -214,7 +213,7 @@ fn point_moved(word: u32, p: Point) -> Point
 /// The current vertex after a vertex command of one word.
 #[tactic(auto, using(gx_matrix::proofs::Sums::casts), unfolding(crate::specs::Numbers::point_by_word))]
 fn point_by_word(command: GeometryCommand, word: u32, p: Point) -> Point
-    ensures { point_seen result ≡ point_by_word command word (point_seen p) }
+    ensures { result ≡ point_by_word command word p }
 {
     let (low, high) = (low_half(word), high_half(word));
     match command {
@@ -244,7 +243,7 @@ fn point_by_word(command: GeometryCommand, word: u32, p: Point) -> Point
 pub fn point_after(command: GeometryCommand, params: &[u32], p: Point) -> Point
     requires parameters { HasParameters command params.now }
     requires some { 1 ≤ length params.now }
-    ensures { point_seen result ≡ point_after command params.now (point_seen p) }
+    ensures { result ≡ point_after command params.now p }
 {
     match command {
         GeometryCommand::Vtx16 => point_by_halves(params),

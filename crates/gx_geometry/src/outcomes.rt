@@ -2,10 +2,9 @@
 
 ghost use Rattle.std.specs.Prelude.{◌≡◌, ◌<◌, ◌≤◌, ◌^◌, true, length, IfOk, IfSome};
 ghost use Rattle.gx_matrix.specs.CommandTable.{HasParameters};
-ghost use Rattle.gx_geometry.specs.Polygons.{arrival_of, polygon_among, most_vertices};
+ghost use Rattle.gx_geometry.specs.Polygons.{polygon_among, most_vertices};
 ghost use Rattle.gx_geometry.specs.States.{no_outcome, four_recent, then_recent, results_of, tested, polygon_added, vertex_added, arrived, flag_cleared, lists_emptied};
 ghost use Rattle.gx_geometry.specs.BoundLaws.{is_shaped, AreSmall, AreLimited, ArePlaces};
-ghost use Rattle.gx_geometry.specs.RecordsKept.{numbers_seen};
 
 mod saved;
 
@@ -128,7 +127,7 @@ impl Outcome {
     fn completed(&self, four: [u16; 4], s: &Numbers) -> Option<Polygon>
         requires run { 1 ≤ s.now.run }
         requires palette { s.now.palette < 2 ^ 13 }
-        ensures value { result ≡ polygon_among four self.now.vertices (arrival_of (numbers_seen s.now)) }
+        ensures value { result ≡ polygon_among four self.now.vertices s.now }
         ensures palette { IfSome result (λ p. p.palette < 2 ^ 13) }
         ensures shape { IfSome result (λ p. is_shaped p ≡ true) }
     {
@@ -139,8 +138,8 @@ impl Outcome {
     #[tactic(auto, using(crate::proofs::Recent::places_dropped), unfolding(crate::specs::States::arrived))]
     pub fn arrive(&mut self, s: &Numbers)
         requires run { 1 ≤ s.now.run }
-        requires small { AreSmall (numbers_seen s.now) }
-        ensures { self.new ≡ arrived (arrival_of (numbers_seen s.now)) self.old }
+        requires small { AreSmall s.now }
+        ensures { self.new ≡ arrived s.now self.old }
     {
         if (self.results.vertices as usize) < VERTICES {
             let four = self.four_recent();
@@ -157,7 +156,7 @@ impl Outcome {
     #[tactic(auto, using(gx_matrix::proofs::Sums::casts, crate::proofs::Recent::no_places), unfolding(crate::specs::States::tested))]
     pub fn test(&mut self, command: GeometryCommand, params: &[u32], s: &Numbers)
         requires { HasParameters command params.now }
-        ensures { self.new ≡ tested command params.now (numbers_seen s.now) self.old }
+        ensures { self.new ≡ tested command params.now s.now self.old }
     {
         match command {
             GeometryCommand::BoxTest => self.results.inside = box_test(params, &s.stacks.clip()),

@@ -2,9 +2,8 @@
 
 ghost use Rattle.std.specs.Prelude.{◌≡◌, ◌≤◌, ◌-◌, ◌^◌, ◌-ℤ◌, ◌+ℤ◌, ◌*ℤ◌, ◌≤ℤ◌, pos, negsuc, true, length, slice_index, slice_index_or, IfSome};
 ghost use Rattle.ds_base.specs.Bits.{bit};
-ghost use Rattle.gx_geometry.specs.Polygons.{vertex_of, arrival_of, minor, times_minor, determinant, is_kept, no_vertex, polygon_among};
+ghost use Rattle.gx_geometry.specs.Polygons.{vertex_of, minor, times_minor, determinant, is_kept, no_vertex, polygon_among};
 ghost use Rattle.gx_geometry.specs.BoundLaws.{is_shaped};
-ghost use Rattle.gx_geometry.specs.RecordsKept.{numbers_seen};
 ghost use Rattle.gx_geometry.specs.Backs.{shape_of, corners_back, index_back, reaches_back, seen_back, indices_back, polygon_back, polygon_by_shape};
 
 mod saved;
@@ -79,7 +78,7 @@ pub enum Shape {
 /// The vertex that a vertex command gives.
 #[tactic(auto, using(gx_matrix::proofs::Sums::casts), unfolding(crate::specs::Polygons::vertex_of))]
 pub fn vertex_of(s: &Numbers) -> Vertex
-    ensures value { result ≡ vertex_of (numbers_seen s.now) }
+    ensures value { result ≡ vertex_of s.now }
     ensures colour { result.colour ≡ s.now.colour }
 {
     let c = through(s.point, &s.stacks.clip());
@@ -297,7 +296,7 @@ fn may_be_seen(came: &[Vertex], four: [u16; 4], attributes: u32, shape: Shape) -
 
 #[tactic(auto, unfolding(crate::specs::Backs::polygon_back))]
 fn polygon_with(four: [u16; 4], s: &Numbers, shape: Shape) -> Polygon
-    ensures value { result ≡ polygon_back four (arrival_of (numbers_seen s.now)) shape }
+    ensures value { result ≡ polygon_back four s.now shape }
     ensures palette { result.palette ≡ s.now.palette }
     ensures shape { is_shaped result ≡ true }
 {
@@ -313,7 +312,7 @@ fn polygon_with(four: [u16; 4], s: &Numbers, shape: Shape) -> Polygon
 
 fn polygon_by_shape(came: &[Vertex], four: [u16; 4], s: &Numbers) -> Option<Polygon>
     requires { 1 ≤ s.now.run }
-    ensures value { result ≡ polygon_by_shape (shape_of s.now.kind (s.now.run - 1)) four came.now (arrival_of (numbers_seen s.now)) }
+    ensures value { result ≡ polygon_by_shape (shape_of s.now.kind (s.now.run - 1)) four came.now s.now }
     ensures palette { IfSome result (λ p. p.palette ≡ s.now.palette) }
     ensures shape { IfSome result (λ p. is_shaped p ≡ true) }
 {
@@ -328,7 +327,7 @@ fn polygon_by_shape(came: &[Vertex], four: [u16; 4], s: &Numbers) -> Option<Poly
 #[tactic(auto, using(crate::proofs::Backs::by_shape))]
 pub fn polygon_of(came: &[Vertex], four: [u16; 4], s: &Numbers) -> Option<Polygon>
     requires { 1 ≤ s.now.run }
-    ensures value { result ≡ polygon_among four came.now (arrival_of (numbers_seen s.now)) }
+    ensures value { result ≡ polygon_among four came.now s.now }
     ensures palette { IfSome result (λ p. p.palette ≡ s.now.palette) }
     ensures shape { IfSome result (λ p. is_shaped p ≡ true) }
 {

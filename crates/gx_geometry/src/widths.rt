@@ -5,9 +5,8 @@ ghost use Rattle.std.specs.Int.{w16, w32};
 ghost use Rattle.std.specs.List.{AllByRecursion};
 ghost use Rattle.gx_geometry.specs.BoundLaws.{AreSmall, HaveColours, HavePalettes, HaveShapes};
 ghost use Rattle.gx_geometry.specs.Numbers.{no_light};
-ghost use Rattle.gx_geometry.specs.RecordsKept.{light_seen, numbers_seen};
 ghost use Rattle.gx_geometry.specs.SavedLaws.{AreCurrent, AreLighting, AreTestResults, IsLight, IsPolygon, IsVertex};
-ghost use Rattle.gx_geometry.specs.Saved.{current_numbers, lighting_numbers};
+ghost use Rattle.gx_geometry.specs.SavedKept.{current_numbers, lighting_numbers};
 ghost use Rattle.gx_geometry.specs.SavedKept.{FitsLight, FitsPolygon, FitsVertex, results_seen};
 
 use crate::numbers::{Coordinates, Light, Numbers, Point};
@@ -119,8 +118,8 @@ fn are_coordinates(c: Coordinates)
 
 /// Of what vertices and polygons have that come next.
 pub fn are_current(s: &Numbers)
-    requires { AreSmall (numbers_seen s.now) }
-    ensures current { AreCurrent (current_numbers (numbers_seen s.now)) }
+    requires { AreSmall s.now }
+    ensures current { AreCurrent (current_numbers s.now) }
     ensures parameter { s.now.parameter < 2 ^ 32 }
 {
     is_point(s.point);
@@ -144,8 +143,8 @@ fn is_light(light: &Light)
 /// Of lights.
 #[tactic(auto, using(crate::proofs::Walks::all_lights))]
 fn are_lights(lights: &[Light])
-    requires { (i : ℕ) → (slice_index_or (map light_seen lights.now) i no_light).colour < 2 ^ 15 }
-    ensures { AllByRecursion IsLight (map light_seen lights.now) }
+    requires { (i : ℕ) → (slice_index_or lights.now i no_light).colour < 2 ^ 15 }
+    ensures { AllByRecursion IsLight lights.now }
 {
     for light in lights {
         is_light(light);
@@ -154,8 +153,8 @@ fn are_lights(lights: &[Light])
 
 /// Of all that lighting asks.
 pub fn are_lighting(s: &Numbers)
-    requires { AreSmall (numbers_seen s.now) }
-    ensures { AreLighting (lighting_numbers (numbers_seen s.now)) }
+    requires { AreSmall s.now }
+    ensures { AreLighting (lighting_numbers s.now) }
 {
     are_lights(&s.lights);
 }

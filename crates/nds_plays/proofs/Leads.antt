@@ -14,7 +14,8 @@ use Rattle.ds_machine.specs.Reference.{processor_due, reference_step}
 use Rattle.ds_machine.specs.declared.answers.Seen.{Seen}
 use Rattle.ds_machine.proofs.ActingDues.{acting_low, acting_processor}
 use Rattle.ds_machine.proofs.CatchingUp.{CaughtSo, behind_steps, caught_least, caught_so, comes_first, still_before}
-use Rattle.run_ahead.specs.Turns.{StopsActing, TakesActing, TakesQuiet}
+use Rattle.run_ahead.specs.TickTurns.{StopsActing, TakesActing}
+use Rattle.run_ahead.specs.Turns.{TakesQuiet}
 use Rattle.ds_machine.proofs.SameTick.{CrossesGeometry, StopsAfterGeometry, WaitsForGeometry, made_then, stopped_then}
 use Rattle.run_ahead.proofs.StepTurns.{before_all}
 use Rattle.run_ahead.proofs.TickTurns.{acts_at_it}

@@ -5,7 +5,8 @@ use Rattle.ds_machine.specs.Acting.{IsActing}
 use Rattle.ds_machine.specs.Reference.{Shown}
 use Rattle.ds_machine.specs.States.{MachineState}
 use Rattle.run_ahead.specs.Consoles.{ConsoleState}
-use Rattle.run_ahead.specs.Turns.{StopsActing, TakesActing, TakesQuiet, one_more_turn, run_to}
+use Rattle.run_ahead.specs.TickTurns.{StopsActing, TakesActing}
+use Rattle.run_ahead.specs.Turns.{TakesQuiet, one_more_turn, run_to}
 use Rattle.nds_plays.specs.Watches.{step_lines}
 use Rattle.nds_plays.specs.declared.steps.Taken.{Taken}
 use Rattle.nds_plays.specs.declared.steps.Taken.TheVariants.{Step, Stop}

@@ -13,7 +13,8 @@ use Rattle.ds_header.specs.Rules.{IsAccepted}
 use Rattle.ds_header.proofs.Accepted.{image_goes}
 use Rattle.ds_timers.specs.Timing.{AreTimers, IsTimer, timer_at, timers_at_boot}
 use Rattle.ds_ports.specs.HappeningLaws.{IsIo, IsProcessorIo}
-use Rattle.ds_ports.specs.Io.{IoState, io_at_boot}
+use Rattle.ds_ports.specs.declared.units.IoParts.{IoParts as IoState}
+use Rattle.ds_ports.specs.Io.{io_at_boot}
 use Rattle.ds_ports.specs.ProcessorIo.{processor_io_at_boot}
 use Rattle.gx_fifo.specs.GxStates.{AreWaiting, gx_at_boot}
 use Rattle.gx_matrix.specs.CommandTable.{command_of}

@@ -17,10 +17,11 @@ use Rattle.ds_ipc.specs.Saved.{ipc_format, side_format}
 use Rattle.ds_math.specs.Saved.{divider_format, root_format}
 use Rattle.ds_state.specs.Formats.{word_format, signed_format}
 use Rattle.ds_timers.specs.Saved.{irq_format_by, timer_format, timers_format}
-use Rattle.ds_machine.specs.Saved.{Around, channels_format, machine_format_by, memories_format, processor_format, processors_format, saved_size, units_format}
+use Rattle.ds_base.specs.declared.keys.KeyLine.{KeyLine}
+use Rattle.ds_machine.specs.Saved.{machine_format, saved_size}
 use Rattle.gx_fifo.specs.Saved.{count_by, entry_format, gx_format_by, holds_by}
 use Rattle.gx_fifo.specs.declared.gx.saved.Asked.{Asked}
-use Rattle.gx_geometry.specs.Saved.{current_format, geometry_format, holds_recent, light_format, lighting_format, lists_format, polygon_format, results_format, unless_none, vertex_format}
+use Rattle.gx_geometry.specs.Saved.{geometry_format, holds_recent, light_format, lists_format, polygon_format, unless_none, vertex_format}
 use Rattle.gx_geometry.specs.Bounds.{is_place}
 use Rattle.gx_matrix.specs.Saved.{matrix_format, stacks_format}
 use Rattle.video2d.specs.DisplayRegisters.{display_row, engine_bytes, engine_registers}
@@ -166,21 +167,9 @@ module _ (at : ℕ) where
   unfolding stacks_format
   few_stacks = search (rules, few_matrix) depth 60 fits 8000
 
-  few_current : ReadsFew at 36 0 current_format
-  unfolding current_format
-  few_current = search rules
-
   few_light : ReadsFew at 14 0 light_format
   unfolding light_format
   few_light = search rules
-
-  few_lighting : ReadsFew at 193 0 lighting_format
-  unfolding lighting_format
-  few_lighting = search (rules, few_light) depth 60 fits 8000
-
-  few_results : ReadsFew at 23 0 results_format
-  unfolding results_format
-  few_results = (4, few_signed) ⨾ λ position. search rules
 
   few_lists : ReadsFew at 186388 0 lists_format
   unfolding lists_format
@@ -189,8 +178,10 @@ module _ (at : ℕ) where
 
   few_geometry : ReadsFew at 377393 0 geometry_format
   unfolding geometry_format
-  few_geometry = (4357, few_stacks) ⨾ λ stacks overflow _ parameter _. (36, few_current) ⨾ λ current. (193, few_lighting) ⨾ λ lighting kind _ run _ first _ second _ third _.
-      (23, few_results) ⨾ λ results vertices kept polygons kept₂. (let a = open_few first second third at vertices kept in let b = most polygons 2048 kept₂ in
+  few_geometry = (4357, few_stacks) ⨾ λ stacks overflow _ parameter _ colour _ x _ y _ z _ raw_s _ raw_t _ s _ t _ set _ attributes _ texture _ palette _ viewport _
+      diffuse _ ambient _ specular _ emission _ by_table _ table _. (14, few_light) ⨾ λ light_0. (14, few_light) ⨾ λ light_1. (14, few_light) ⨾ λ light_2.
+      (14, few_light) ⨾ λ light_3 kind _ run _ first _ second _ third _. (4, few_signed) ⨾ λ position vector_x _ vector_y _ vector_z _ inside _
+      vertices kept polygons kept₂. (let a = open_few first second third at vertices kept in let b = most polygons 2048 kept₂ in
       (22, few_vertex) ⨾ λ vs. (25, few_polygon) ⨾ λ ps. (186388, few_lists) ⨾ λ last. omega (arith, a, b))
 
   few_entry : ReadsFew at 5 0 entry_format
@@ -204,35 +195,18 @@ module _ (at : ℕ) where
 
   -- ---- the machine's own parts
 
-  few_processor : (arch : Arch) → ReadsFew at 157 0 (processor_format arch)
-  unfolding processor_format
-  few_processor arch = (148, few_registers arch) ⨾ λ registers. search rules
-
-  few_processors : ReadsFew at 326 0 processors_format
-  unfolding processors_format
-  few_processors = (157, few_processor V5) ⨾ λ nine. (157, few_processor V4) ⨾ λ seven. (12, few_cp15) ⨾ λ cp15. omega arith
-
   few_banks : ReadsFew at 671753 0 banks_format
   unfolding banks_format banks_size
   few_banks = search rules
 
-  few_memories : ReadsFew at 5017609 0 memories_format
-  unfolding memories_format saved_size
-  few_memories = λ main _ shared _ wram _ itcm _ dtcm _ palette _. (671753, few_banks) ⨾ λ vram oam _. omega arith
-
-  few_units : (halted : Bool) → ReadsFew at 337 0 (units_format halted)
-  unfolding units_format
-  few_units halted = λ wramcnt _. (9, few_irq Nine false) ⨾ λ irq₉. (9, few_irq Seven halted) ⨾ λ irq₇. (52, few_timers) ⨾ λ timers₉. (52, few_timers) ⨾ λ timers₇.
-      (41, few_divider) ⨾ λ divider. (21, few_root) ⨾ λ root. (146, few_ipc) ⨾ λ ipc. search rules
-
-  few_channels : (late : Bool) → ReadsFew at 336 0 (channels_format late)
-  unfolding channels_format
-  few_channels late = (160, few_dma Nine false) ⨾ λ nine. (160, few_dma Seven late) ⨾ λ seven. (4, few_word) ⨾ λ fill. omega arith
-
-few_machine : (around : Around) (at : ℕ) → ReadsFew at 5791374 0 (machine_format_by around at)
-unfolding machine_format_by
-few_machine around at = (326, few_processors at) ⨾ λ processors. (5017609, few_memories at) ⨾ λ memories. (337, few_units at _) ⨾ λ units. (336, few_channels at _) ⨾ λ channels.
-    (393705, few_video at) ⨾ λ video. (379032, few_gx at _) ⨾ λ gx. (29, few_card at around.file) ⨾ λ card. omega arith
+few_machine : (file : List ℕ) (keys : List KeyLine) (nine seven events at : ℕ) → ReadsFew at 5791374 0 (machine_format file keys nine seven events at)
+unfolding machine_format saved_size
+few_machine file keys steps_of_nine steps_of_seven events at =
+    (148, few_registers at V5) ⨾ λ registers₉ halted₉ _ due₉ _. (148, few_registers at V4) ⨾ λ registers₇ halted₇ _ due₇ _. (12, few_cp15 at) ⨾ λ cp15 main _ shared _ wram _ itcm _ dtcm _ palette _.
+    (671753, few_banks at) ⨾ λ vram oam _ wramcnt _. (9, few_irq at Nine false) ⨾ λ irq₉. (9, few_irq at Seven _) ⨾ λ irq₇. (52, few_timers at) ⨾ λ timers₉.
+    (52, few_timers at) ⨾ λ timers₇. (41, few_divider at) ⨾ λ divider. (21, few_root at) ⨾ λ root. (146, few_ipc at) ⨾ λ ipc pressed _ keycnt₉ _ keycnt₇ _.
+    (160, few_dma at Nine false) ⨾ λ dma₉. (160, few_dma at Seven _) ⨾ λ dma₇. (4, few_word at) ⨾ λ fill. (393705, few_video at) ⨾ λ video.
+    (379032, few_gx at _) ⨾ λ gx. (29, few_card at file) ⨾ λ card. omega arith
 
 few_head : (digest : List ℕ) (limit : ℕ) → ReadsFew limit 74 0 (head_format digest)
 unfolding head_format
@@ -250,6 +224,6 @@ states_are_short = λ digest limit file keys bytes c h.
     let inner = bound (read_format (format_behind head file keys) head.at both.0.1) (λ m. Ok (console_of head m.0, m.1)) whole.0 both.2 in
     let came : (console_of head inner.0.0, inner.0.1) ≡ whole.0 = ok_same inner.2 in
     let front = reads_few (head_format digest) limit 74 0 (record { place = 0; bytes = bytes }) both.0 (few_head digest limit) both.1 in
-    let own = reads_few (format_behind head file keys) head.at 5791374 0 both.0.1 inner.0 (few_machine _ head.at) inner.1 in
+    let own = reads_few (format_behind head file keys) head.at 5791374 0 both.0.1 inner.0 (few_machine file keys head.nine head.seven head.events head.at) inner.1 in
     let none : length inner.0.1.bytes ≡ 0 = ap (λ (p : ConsoleState × Left). length p.1.bytes) came ∙ ap (λ (bs : List ℕ). length bs) whole.3 in
     omega (arith, front, own, none))

@@ -1,15 +1,23 @@
-use Rattle.std.specs.Prelude.{ℕ, ◌≡◌, ◌+◌, ◌⊎◌, [], ◌∷◌, None}
+use Rattle.std.specs.Prelude.{ℕ, ◌≡◌, ◌+◌, ◌⊎◌, List, [], ◌∷◌, None}
 use Rattle.ds_base.specs.declared.ticks.Tick.{Tick}
-use Rattle.ds_runs.specs.Runs.{IsLeast}
-use Rattle.ds_machine.specs.Reference.{dues_of, next_shown}
+use Rattle.ds_runs.specs.Runs.{IsLeast, Makes, Stops}
+use Rattle.ds_base.specs.declared.left_out.LeftOut.{LeftOut}
+use Rattle.ds_machine.specs.Reference.{Shown, dues_of, next_shown}
 use Rattle.ds_machine.specs.Sound.{IsSound}
 use Rattle.ds_machine.specs.States.{MachineState}
 use Rattle.run_ahead.specs.Consoles.{ConsoleState}
-use Rattle.run_ahead.specs.Turns.{StopsActing, TakesActing, TakesQuiet, Turns}
+use Rattle.run_ahead.specs.Turns.{Acts, TakesQuiet, Turns}
 use Rattle.run_ahead.specs.declared.turns.Turned.{Turned}
 use Rattle.run_ahead.specs.declared.turns.Turned.TheVariants.{Ran, Frame, AtEnd, Stopped}
 
 -- Turns of one tick: those whose limit is the tick after the one at which the least of all actors is due.
+
+-- the step of the least acting actor is taken, or it stops the machine
+abbrev pub TakesActing : ℕ → MachineState → List Shown → MachineState → Type 0
+TakesActing until old outs new = Acts until old (Makes new outs)
+
+abbrev pub StopsActing : ℕ → MachineState → LeftOut → MachineState → Type 0
+StopsActing until old left new = Acts until old (Stops left new)
 
 -- by a turn's answer, it took the step of the least acting actor alone, or what quiet geometry does below the limit, or the step stopped
 abbrev pub IsTickTurn : ℕ → MachineState → Turned → MachineState → Type 0

@@ -1,7 +1,7 @@
 use Rattle.std.specs.Prelude.{ℕ, ◌≡◌, ◌<◌, ◌+◌, ◌⊎◌, true, List, [], ◌∷◌, Some, None, IsSome, max}
 use Rattle.ds_base.specs.declared.left_out.LeftOut.{LeftOut}
 use Rattle.ds_base.specs.declared.ticks.Tick.{Tick}
-use Rattle.ds_runs.specs.Runs.{IsLeast, IsOver, Makes, Stops}
+use Rattle.ds_runs.specs.Runs.{IsLeast, IsOver, MachineStep, Makes, Stops}
 use Rattle.ds_base.specs.declared.processors.Proc.{Proc}
 use Rattle.ds_machine.specs.Acting.{acting_dues, is_behind}
 use Rattle.ds_machine.specs.Lagging.{CatchesUp, CatchesUpFor}
@@ -16,19 +16,19 @@ use Rattle.run_ahead.specs.declared.turns.Turned.TheVariants.{Ran, Frame, AtEnd,
 
 -- A turn: what it does, and what that says of the reference run.
 
--- the step of the least acting actor, which is due below a limit; where it observes geometry, geometry catches up before it
-pub record TakesActing (until : ℕ) (old : MachineState) (outs : List Shown) (new : MachineState) : Type 0 where
+-- the step of the least acting actor, which is due below a limit, and what it comes to; where it observes geometry, geometry catches up before it
+pub record Acts (until : ℕ) (old : MachineState) (came : MachineStep MachineState Shown LeftOut) : Type 0 where
   pub tick : Tick
   pub rank : ℕ
   pub least : IsLeast (acting_dues old) tick rank
   pub below : tick.0 < until
   pub caught : MachineState
   pub catches : CatchesUpFor tick.0 rank old caught
-  pub step : reference_step rank caught ≡ Makes new outs
+  pub step : reference_step rank caught ≡ came
 
 -- that actor isn't a processor: its event is the turn
 abbrev pub TakesEvent : ℕ → MachineState → List Shown → MachineState → Type 0
-TakesEvent until old outs new = (acting : TakesActing until old outs new) × (acting.rank < 22)
+TakesEvent until old outs new = (acting : Acts until old (Makes new outs)) × (acting.rank < 22)
 
 -- it is a processor: the turn is its step and then the longest run of its further steps that belong to the turn
 pub record TakesStretch (until : ℕ) (old new : MachineState) : Type 0 where
@@ -45,19 +45,9 @@ pub record TakesQuiet (until : ℕ) (old new : MachineState) : Type 0 where
   pub some : is_behind until 0 old ≡ true
   pub catches : CatchesUp until 0 old new
 
--- the step of the least acting actor stops the machine, and leaves this state
-pub record StopsActing (until : ℕ) (old : MachineState) (left : LeftOut) (new : MachineState) : Type 0 where
-  pub tick : Tick
-  pub rank : ℕ
-  pub least : IsLeast (acting_dues old) tick rank
-  pub below : tick.0 < until
-  pub caught : MachineState
-  pub catches : CatchesUpFor tick.0 rank old caught
-  pub step : reference_step rank caught ≡ Stops left new
-
--- it is an event that does
+-- an event stops the machine, and leaves this state
 abbrev pub EventStops : ℕ → MachineState → LeftOut → MachineState → Type 0
-EventStops until old left new = (acting : StopsActing until old left new) × (acting.rank < 22)
+EventStops until old left new = (acting : Acts until old (Stops left new)) × (acting.rank < 22)
 
 -- or a step of the processor that belongs to its turn, after the steps before it
 pub record StretchStops (until : ℕ) (old : MachineState) (left : LeftOut) (new : MachineState) : Type 0 where

@@ -3,7 +3,6 @@
 ghost use Rattle.std.specs.Prelude.{◌≡◌, ◌<◌, ◌≤◌, ◌&&◌, Bool, Some, IfOk, OnOk};
 ghost use Rattle.ds_base.specs.Schedules.{IsEarly};
 ghost use Rattle.ds_dma.specs.Channels.{IsChannel, is_running};
-ghost use Rattle.ds_dma.specs.ChannelsKept.{channel_seen};
 ghost use Rattle.ds_dma.specs.Saved.{burst_left, channel_format_by, must_run, runs_by, units_left};
 ghost use Rattle.ds_state.specs.Formats.{bytes_written};
 ghost use Rattle.ds_state.specs.Reading.{GivesRead, read_format};
@@ -17,7 +16,7 @@ use std::alloc::AllocError;
 /// Puts a channel.
 #[tactic(auto, unfolding(crate::specs::Saved::channel_format_by))]
 pub fn put(into: &mut Packer, proc: Proc, which: u8, channel: Channel) -> Result<(), AllocError>
-    ensures { (must : Bool) → OnOk result (into.new ≡ bytes_written (channel_format_by proc which must) into.old (channel_seen channel)) }
+    ensures { (must : Bool) → OnOk result (into.new ≡ bytes_written (channel_format_by proc which must) into.old channel) }
 {
     into.put_u32(channel.sad)?;
     into.put_u32(channel.dad)?;
@@ -45,8 +44,8 @@ pub fn take(
     must: bool,
 ) -> Result<Channel, Unpacked>
     requires { IsEarly (Some at) }
-    ensures reads { GivesRead channel_seen result from.new (read_format (channel_format_by proc which must) at.0 from.old) }
-    ensures is { IfOk result (λ channel. IsChannel proc which (channel_seen channel)) }
+    ensures reads { GivesRead (λ x. x) result from.new (read_format (channel_format_by proc which must) at.0 from.old) }
+    ensures is { IfOk result (λ channel. IsChannel proc which channel) }
     ensures early { IfOk result (λ channel. IsEarly channel.trigger) }
 {
     let sad = from.take_kept_word(ADDRESS)?;
@@ -92,7 +91,7 @@ fn has_units(proc: Proc, which: u8, enabled: bool, units: u32) -> bool
 fn has_burst(enabled: bool, units: u32, burst: u32) -> bool
     ensures { result ≡ burst_left enabled units 0 burst }
 {
-    !enabled || (burst <= units && burst <= 112)
+    !enabled || (burst <= units && burst <= controls::BURST)
 }
 
 /// Whether it may say so of its running.

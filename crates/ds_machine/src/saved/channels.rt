@@ -2,7 +2,7 @@
 
 ghost use Rattle.std.specs.Prelude.{◌≡◌, Bool, OnOk, Some};
 ghost use Rattle.ds_base.specs.Schedules.{IsEarly};
-ghost use Rattle.ds_machine.specs.Saved.{channels_format, saved_channels};
+ghost use Rattle.ds_machine.specs.SavedParts.{channels_format, saved_channels};
 ghost use Rattle.ds_state.specs.Formats.{bytes_written};
 ghost use Rattle.ds_state.specs.Reading.{GivesRead, read_format};
 
@@ -22,7 +22,7 @@ pub struct SavedChannels {
 }
 
 impl Model for SavedChannels {
-    ghost use Rattle.ds_machine.specs.Saved.{SavedChannels};
+    ghost use Rattle.ds_machine.specs.SavedParts.{SavedChannels};
 
     ghost Value = { SavedChannels };
 
@@ -32,7 +32,7 @@ impl Model for SavedChannels {
 impl SavedChannels {
     /// Takes them, ARM9's first, by whether ARM7 is late. The error is where the first field begins that isn't whole or breaks its rule: those of the
     /// channels; and where ARM7 is late, that none of its channels runs.
-    #[tactic(auto, unfolding(crate::specs::Saved::channels_format))]
+    #[tactic(auto, unfolding(crate::specs::SavedParts::channels_format))]
     pub fn take(from: &mut Unpacker, at: Tick, late: bool) -> Result<SavedChannels, Unpacked>
         requires { IsEarly (Some at) }
         ensures { GivesRead (λ c. c) result from.new (read_format (channels_format late) at.0 from.old) }
@@ -47,7 +47,7 @@ impl SavedChannels {
 
 impl Parts {
     /// Puts the same, whether ARM7 is late or not.
-    #[tactic(auto, unfolding(crate::specs::Saved::channels_format), using(crate::proofs::SavedBytes::dma_bytes))]
+    #[tactic(auto, unfolding(crate::specs::SavedParts::channels_format), using(crate::proofs::SavedBytes::dma_bytes))]
     pub fn put_channels(&self, into: &mut Packer) -> Result<(), AllocError>
         ensures { (late : Bool) → OnOk result (into.new ≡ bytes_written (channels_format late) into.old (saved_channels self.now.io)) }
     {

@@ -1,7 +1,7 @@
 //! The memories in bytes.
 
 ghost use Rattle.std.specs.Prelude.{◌≡◌, OnOk};
-ghost use Rattle.ds_machine.specs.Saved.{memories_format, saved_memories};
+ghost use Rattle.ds_machine.specs.SavedParts.{memories_format, saved_memories};
 ghost use Rattle.ds_state.specs.Formats.{bytes_written};
 ghost use Rattle.ds_state.specs.Reading.{GivesIn, read_format};
 
@@ -26,7 +26,7 @@ pub struct SavedMemories {
 }
 
 impl Model for SavedMemories {
-    ghost use Rattle.ds_machine.specs.Saved.{SavedMemories};
+    ghost use Rattle.ds_machine.specs.SavedParts.{SavedMemories};
 
     ghost Value = { SavedMemories };
 
@@ -45,7 +45,7 @@ impl Model for SavedMemories {
 impl SavedMemories {
     /// Takes main memory, the shared work RAM, ARM7's own, ITCM, DTCM, palettes, video memory and OAM. The error is want of memory, or where the
     /// first one begins that isn't whole, or breaks a rule of video memory.
-    #[tactic(auto, unfolding(crate::specs::Saved::memories_format, crate::specs::Saved::saved_size))]
+    #[tactic(auto, unfolding(crate::specs::SavedParts::memories_format, crate::specs::Saved::saved_size))]
     pub fn take(alloc: Global, from: &mut Unpacker, at: Tick) -> Result<SavedMemories, Unpacked>
         ensures { GivesIn (λ m. m) result from.new (read_format memories_format at.0 from.old) }
     {
@@ -68,7 +68,7 @@ impl SavedMemories {
 
 impl Parts {
     /// Puts all memories from where they lie.
-    #[tactic(auto, unfolding(crate::specs::Saved::memories_format))]
+    #[tactic(auto, unfolding(crate::specs::SavedParts::memories_format))]
     pub fn put_memories(&self, into: &mut Packer) -> Result<(), AllocError>
         ensures { OnOk result (into.new ≡ bytes_written memories_format into.old (saved_memories self.now)) }
     {

@@ -4,7 +4,9 @@ ghost use Rattle.std.specs.Prelude.{◌≡◌, IfOk, OnOk, Some};
 ghost use Rattle.ds_base.specs.Schedules.{IsEarly};
 ghost use Rattle.ds_base.specs.declared.processors.Arch.TheVariants.{V4, V5};
 ghost use Rattle.ds_machine.specs.Processors.{state_of, processor_taken};
-ghost use Rattle.ds_machine.specs.Saved.{is_late, made_processor, own_due, processor_format, processors_format, saved_processors};
+ghost use Rattle.ds_machine.specs.Saved.{own_due};
+ghost use Rattle.ds_machine.specs.SavedParts.{is_late, made_processor, processor_format};
+ghost use Rattle.ds_machine.specs.SavedParts.{processors_format, saved_processors};
 ghost use Rattle.ds_state.specs.Formats.{bytes_written, number_code};
 ghost use Rattle.ds_state.specs.Reading.{GivesRead, read_code, read_format, ruled};
 
@@ -58,7 +60,7 @@ impl Model for SavedProcessors {
     ghost use Rattle.std.specs.Prelude.{◌≡◌};
     ghost use Rattle.ds_base.specs.declared.processors.Arch.TheVariants.{V4, V5};
     ghost use Rattle.ds_machine.specs.Processors.{processor_taken};
-    ghost use Rattle.ds_machine.specs.Saved.{SavedProcessors};
+    ghost use Rattle.ds_machine.specs.SavedParts.{SavedProcessors};
 
     ghost Value = { SavedProcessors };
 
@@ -68,7 +70,7 @@ impl Model for SavedProcessors {
 }
 
 /// Puts a processor, 157 bytes.
-#[tactic(auto, unfolding(crate::specs::Saved::processor_format))]
+#[tactic(auto, unfolding(crate::specs::SavedParts::processor_format))]
 fn put_processor(into: &mut Packer, processor: &Processor, halted: bool) -> Result<(), AllocError>
     ensures { OnOk result (into.new ≡ bytes_written (processor_format processor.now.core.arch) into.old
         (record { registers = processor.now.core.registers; halted = halted; due = processor.now.due })) }
@@ -98,7 +100,7 @@ fn take_own_due(from: &mut Unpacker, at: Tick, halted: bool) -> Result<u64, Unpa
 }
 
 /// Takes a processor of an architecture.
-#[tactic(auto, unfolding(crate::specs::Saved::processor_format))]
+#[tactic(auto, unfolding(crate::specs::SavedParts::processor_format))]
 fn take_processor(from: &mut Unpacker, at: Tick, arch: Arch) -> Result<TakenProcessor, Unpacked>
     requires { IsEarly (Some at) }
     ensures reads { GivesRead processor_taken result from.new (read_format (processor_format arch) at.0 from.old) }
@@ -113,7 +115,7 @@ fn take_processor(from: &mut Unpacker, at: Tick, arch: Arch) -> Result<TakenProc
 impl SavedProcessors {
     /// Takes both processors, ARM9 first, and CP15. The error is where the first field begins that isn't whole or breaks its rule: those of the cores
     /// and of CP15; a flag that is no flag; a due tick of a halted processor that isn't 0, or one that is more than 2^32 ticks after the state's.
-    #[tactic(auto, unfolding(crate::specs::Saved::processors_format))]
+    #[tactic(auto, unfolding(crate::specs::SavedParts::processors_format))]
     pub fn take(from: &mut Unpacker, at: Tick) -> Result<SavedProcessors, Unpacked>
         requires { IsEarly (Some at) }
         ensures { GivesRead (λ p. p) result from.new (read_format processors_format at.0 from.old) }
@@ -127,7 +129,7 @@ impl SavedProcessors {
 
 impl Parts {
     /// Puts both processors, ARM9 first, and CP15, 326 bytes.
-    #[tactic(auto, unfolding(crate::specs::Saved::processors_format))]
+    #[tactic(auto, unfolding(crate::specs::SavedParts::processors_format))]
     pub fn put_processors(&self, into: &mut Packer) -> Result<(), AllocError>
         ensures { OnOk result (into.new ≡ bytes_written processors_format into.old (saved_processors self.now)) }
     {

@@ -2,7 +2,7 @@
 
 ghost use Rattle.std.specs.Prelude.{◌≡◌, Bool, OnOk, Some};
 ghost use Rattle.ds_base.specs.Schedules.{IsEarly};
-ghost use Rattle.ds_machine.specs.Saved.{saved_units, units_format};
+ghost use Rattle.ds_machine.specs.SavedParts.{saved_units, units_format};
 ghost use Rattle.ds_state.specs.Formats.{bytes_written};
 ghost use Rattle.ds_state.specs.Reading.{GivesIn, read_format};
 
@@ -33,7 +33,7 @@ pub struct SavedUnits {
 
 impl Model for SavedUnits {
     ghost use Rattle.std.specs.Prelude.{◌<◌, ◌^◌};
-    ghost use Rattle.ds_machine.specs.Saved.{SavedUnits};
+    ghost use Rattle.ds_machine.specs.SavedParts.{SavedUnits};
 
     ghost Value = { SavedUnits };
 
@@ -62,7 +62,7 @@ impl SavedUnits {
     /// the keys that are pressed and each KEYCNT, by whether ARM7 is halted. The error is want of memory, or where the first field begins that isn't
     /// whole or breaks its rule: those of the units; a WRAMCNT above 3; where ARM7 is halted a bit of its IF that stands in its IE; over twelve keys;
     /// a bit that KEYCNT doesn't keep.
-    #[tactic(auto, unfolding(crate::specs::Saved::units_format))]
+    #[tactic(auto, unfolding(crate::specs::SavedParts::units_format))]
     pub fn take(
         alloc: Global,
         from: &mut Unpacker,
@@ -101,7 +101,7 @@ impl SavedUnits {
 
 impl Parts {
     /// Puts the same, whether ARM7 is halted or not.
-    #[tactic(auto, unfolding(crate::specs::Saved::units_format), using(crate::proofs::SavedBytes::irq_bytes))]
+    #[tactic(auto, unfolding(crate::specs::SavedParts::units_format), using(crate::proofs::SavedBytes::irq_bytes))]
     pub fn put_units(&self, into: &mut Packer) -> Result<(), AllocError>
         ensures { (halted : Bool) → OnOk result (into.new ≡ bytes_written (units_format halted) into.old (saved_units self.now.io)) }
     {

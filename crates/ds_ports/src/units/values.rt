@@ -6,6 +6,7 @@ ghost use Rattle.ds_base.specs.Schedules.{IsEarly};
 ghost use Rattle.ds_ipc.specs.Ipcs.{ipc_received_word};
 ghost use Rattle.ds_ports.specs.Inside.{is_of_unit};
 ghost use Rattle.ds_ports.specs.Registers.{card_word_taken, divcnt_word, meaning_of, sqrtcnt_word, word_of_two, word_received};
+ghost use Rattle.ds_ports.specs.RegisterMap.{numbers_of};
 
 use crate::displays::{display_kept, display_value};
 use crate::processor_io::{extkeyin, keyinput};
@@ -57,7 +58,7 @@ fn sqrtcnt(root: &Root) -> u32
 impl Units {
     /// What a register reads, for a processor at a tick.
     pub(crate) fn value_of(&self, proc: Proc, now: Tick, register: Register, number: u32) -> u32
-        requires { number < (meaning_of register).count }
+        requires { number < numbers_of register }
         ensures { result ≡ (meaning_of register).value proc now self.now number }
     {
         match register {
@@ -86,7 +87,7 @@ impl Units {
     /// The same, of one of video's, the maths unit's, geometry's and the card's. It stands apart so that the others need no stack.
     #[inline(never)]
     fn value_of_unit(&self, proc: Proc, now: Tick, register: Register, number: u32) -> u32
-        requires number { number < (meaning_of register).count }
+        requires number { number < numbers_of register }
         requires of_unit { is_of_unit register ≡ true }
         ensures { result ≡ (meaning_of register).value proc now self.now number }
     {
@@ -148,7 +149,7 @@ impl Units {
 
     /// The bits that a write of some of a register's bytes leaves as they are in the others.
     pub(crate) fn kept_of(&self, proc: Proc, register: Register, number: u32) -> u32
-        requires { number < (meaning_of register).count }
+        requires { number < numbers_of register }
         ensures { result ≡ (meaning_of register).kept proc self.now number }
     {
         match register {
@@ -174,7 +175,7 @@ impl Units {
     /// The same, of one of video's, the maths unit's, geometry's and the card's.
     #[inline(never)]
     fn kept_of_unit(&self, proc: Proc, register: Register, number: u32) -> u32
-        requires number { number < (meaning_of register).count }
+        requires number { number < numbers_of register }
         requires of_unit { is_of_unit register ≡ true }
         ensures { result ≡ (meaning_of register).kept proc self.now number }
     {

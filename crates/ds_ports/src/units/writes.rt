@@ -6,6 +6,7 @@ ghost use Rattle.ds_base.specs.Schedules.{IsEarly};
 ghost use Rattle.ds_ports.specs.Guards.{is_overfull};
 ghost use Rattle.ds_ports.specs.Inside.{is_of_unit, is_own};
 ghost use Rattle.ds_ports.specs.Registers.{bank_set, card_set, division_set, fifo_control_set, gx_set, halt_refusal, after_write, meaning_of, root_set, sync_set, with_word_of_two, word_sent};
+ghost use Rattle.ds_ports.specs.RegisterMap.{numbers_of};
 
 use crate::registers::Register;
 use crate::units::Units;
@@ -160,7 +161,7 @@ impl Units {
         number: u32,
         value: u32,
     )
-        requires number { number < (meaning_of register).count }
+        requires number { number < numbers_of register }
         requires own { is_own register ≡ true }
         requires early { IsEarly (Some now) }
         ensures { self.new ≡ after_write proc now self.old register number value }
@@ -183,7 +184,7 @@ impl Units {
         number: u32,
         value: u32,
     )
-        requires number { number < (meaning_of register).count }
+        requires number { number < numbers_of register }
         requires early { IsEarly (Some now) }
         requires room { is_overfull proc self.old ≡ false }
         ensures { self.new ≡ after_write proc now self.old register number value }
@@ -213,7 +214,7 @@ impl Units {
     /// The same, of one of video's, the maths unit's, geometry's and the card's.
     #[inline(never)]
     fn write_unit(&mut self, proc: Proc, now: Tick, register: Register, number: u32, value: u32)
-        requires number { number < (meaning_of register).count }
+        requires number { number < numbers_of register }
         requires of_unit { is_of_unit register ≡ true }
         requires early { IsEarly (Some now) }
         requires room { is_overfull proc self.old ≡ false }
@@ -244,7 +245,7 @@ impl Units {
         number: u32,
         value: u32,
     ) -> Option<Stop>
-        requires { number < (meaning_of register).count }
+        requires { number < numbers_of register }
         ensures { result ≡ (meaning_of register).refusal proc self.now number value }
     {
         match register {

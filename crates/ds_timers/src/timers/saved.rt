@@ -5,7 +5,6 @@ ghost use Rattle.ds_base.specs.Schedules.{IsEarly};
 ghost use Rattle.ds_state.specs.Formats.{bytes_written};
 ghost use Rattle.ds_state.specs.Reading.{GivesRead, read_format};
 ghost use Rattle.ds_timers.specs.Saved.{anchors_by, timer_format, timers_format};
-ghost use Rattle.ds_timers.specs.TimersKept.{timer_seen};
 ghost use Rattle.ds_timers.specs.Timing.{IsTimer, kept_control};
 
 use crate::timers::{Timer, Timers, goes_alone, ticks};
@@ -17,7 +16,7 @@ use std::alloc::AllocError;
 #[tactic(auto, unfolding(crate::specs::Saved::timer_format))]
 fn put_timer(into: &mut Packer, which: u8, timer: Timer) -> Result<(), AllocError>
     requires { kept_control timer.control ≡ timer.control }
-    ensures { OnOk result (into.new ≡ bytes_written (timer_format which) into.old (timer_seen timer)) }
+    ensures { OnOk result (into.new ≡ bytes_written (timer_format which) into.old timer) }
 {
     into.put_u16(timer.reload)?;
     into.put_u8((timer.control & 0xC7) as u8)?;
@@ -34,8 +33,8 @@ fn put_timer(into: &mut Packer, which: u8, timer: Timer) -> Result<(), AllocErro
 #[tactic(auto, unfolding(crate::specs::Saved::timer_format))]
 fn take_timer(from: &mut Unpacker, at: Tick, which: u8) -> Result<Timer, Unpacked>
     requires { IsEarly (Some at) }
-    ensures reads { GivesRead timer_seen result from.new (read_format (timer_format which) at.0 from.old) }
-    ensures is { IfOk result (λ timer. IsTimer which (timer_seen timer)) }
+    ensures reads { GivesRead (λ x. x) result from.new (read_format (timer_format which) at.0 from.old) }
+    ensures is { IfOk result (λ timer. IsTimer which timer) }
     ensures early { IfOk result (λ timer. IsEarly timer.since) }
 {
     let reload = from.take_u16()?;

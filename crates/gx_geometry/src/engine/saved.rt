@@ -3,7 +3,8 @@
 ghost use Rattle.std.specs.Prelude.{◌≡◌, OnOk};
 ghost use Rattle.ds_state.specs.Formats.{bytes_written, number_code};
 ghost use Rattle.ds_state.specs.Reading.{GivesIn, GivesRead, read_code, read_format, ruled};
-ghost use Rattle.gx_geometry.specs.Saved.{geometry_format, run_until};
+ghost use Rattle.gx_geometry.specs.Saved.{geometry_format};
+ghost use Rattle.gx_geometry.specs.SavedKept.{run_until};
 ghost use Rattle.gx_geometry.specs.SavedLaws.{GeometryIsSaved, HasBounds};
 
 use crate::engine::Geometry;
@@ -30,7 +31,6 @@ fn take_run(from: &mut Unpacker, at: u64) -> Result<u64, Unpacked>
 
 impl Geometry {
     /// Puts the matrices, the numbers, the results of tests, the open lists and those of the last swap. The error is want of memory.
-    #[tactic(auto, unfolding(crate::specs::Saved::geometry_format))]
     pub fn pack(&self, into: &mut Packer) -> Result<(), AllocError>
         ensures { OnOk result (into.new ≡ bytes_written geometry_format into.old self.now) }
     {
@@ -73,7 +73,7 @@ impl Geometry {
     /// those that it doesn't have stand nowhere, and the others in the open list or nowhere, which is told where that list's length is; lists
     /// have at most 6,144 vertices and 2,048 polygons, and a polygon three or four corners; a swap was no later than the tick, and one at
     /// tick 0 gave out nothing.
-    #[tactic(auto, unfolding(crate::specs::Saved::geometry_format))]
+    #[tactic(auto, using(crate::proofs::SavedParts::geometry_reads), unfolding(crate::specs::SavedKept::geometry_parts))]
     pub fn unpack(alloc: Global, from: &mut Unpacker, at: Tick) -> Result<Geometry, Unpacked>
         ensures { GivesIn (λ g. g) result from.new (read_format geometry_format at.0 from.old) }
     {

@@ -4,9 +4,8 @@ ghost use Rattle.std.specs.Prelude.{◌≡◌, ◌<◌, ◌^◌, ℕ, map, slice
 ghost use Rattle.ds_state.specs.Formats.{array, bytes_written};
 ghost use Rattle.ds_state.specs.Reading.{GivesRead, read_code, read_format};
 ghost use Rattle.gx_geometry.specs.Numbers.{no_light};
-ghost use Rattle.gx_geometry.specs.RecordsKept.{light_seen, numbers_seen};
-ghost use Rattle.gx_geometry.specs.Saved.{current_format, current_numbers, run_kind_number, light_format, lighting_format, lighting_numbers};
-ghost use Rattle.gx_geometry.specs.SavedKept.{current_seen, lighting_seen};
+ghost use Rattle.gx_geometry.specs.Saved.{run_kind_number, light_format};
+ghost use Rattle.gx_geometry.specs.SavedKept.{current_format, current_numbers, lighting_format, lighting_numbers};
 
 use crate::numbers::{Coordinates, Kind, Light, Material, Numbers, Point};
 use ds_state::{Packer, Unpacked, Unpacker, holds};
@@ -59,9 +58,9 @@ pub fn run_kind_number(kind: Kind) -> u8
 }
 
 /// Puts what vertices and polygons have that come next.
-#[tactic(auto, unfolding(crate::specs::Saved::current_format))]
+#[tactic(auto, unfolding(crate::specs::SavedKept::current_format))]
 pub fn put_current(into: &mut Packer, s: &Numbers) -> Result<(), AllocError>
-    ensures { OnOk result (into.new ≡ bytes_written current_format into.old (current_numbers (numbers_seen s.now))) }
+    ensures { OnOk result (into.new ≡ bytes_written current_format into.old (current_numbers s.now)) }
 {
     into.put_u16(s.colour)?;
     into.put_i16(s.point.x)?;
@@ -80,9 +79,9 @@ pub fn put_current(into: &mut Packer, s: &Numbers) -> Result<(), AllocError>
 }
 
 /// Takes what vertices and polygons have that come next.
-#[tactic(auto, unfolding(crate::specs::Saved::current_format))]
+#[tactic(auto, unfolding(crate::specs::SavedKept::current_format))]
 pub fn take_current(from: &mut Unpacker, at: u64) -> Result<Current, Unpacked>
-    ensures reads { GivesRead current_seen result from.new (read_format current_format at from.old) }
+    ensures reads { GivesRead (λ n. n) result from.new (read_format current_format at from.old) }
     ensures colour { IfOk result (λ n. n.colour < 2 ^ 15) }
     ensures palette { IfOk result (λ n. n.palette < 2 ^ 13) }
 {
@@ -115,7 +114,7 @@ pub fn take_current(from: &mut Unpacker, at: u64) -> Result<Current, Unpacked>
 /// Puts a light.
 #[tactic(auto, unfolding(crate::specs::Saved::light_format))]
 fn put_light(into: &mut Packer, light: Light) -> Result<(), AllocError>
-    ensures { OnOk result (into.new ≡ bytes_written light_format into.old (light_seen light)) }
+    ensures { OnOk result (into.new ≡ bytes_written light_format into.old light) }
 {
     into.put_i32(light.x)?;
     into.put_i32(light.y)?;
@@ -127,7 +126,7 @@ fn put_light(into: &mut Packer, light: Light) -> Result<(), AllocError>
 /// Takes a light.
 #[tactic(auto, unfolding(crate::specs::Saved::light_format))]
 fn take_light(from: &mut Unpacker, at: u64) -> Result<Light, Unpacked>
-    ensures reads { GivesRead light_seen result from.new (read_format light_format at from.old) }
+    ensures reads { GivesRead (λ l. l) result from.new (read_format light_format at from.old) }
     ensures colour { IfOk result (λ l. l.colour < 2 ^ 15) }
 {
     let x = from.take_i32()?;
@@ -138,9 +137,9 @@ fn take_light(from: &mut Unpacker, at: u64) -> Result<Light, Unpacked>
 }
 
 /// Puts all that lighting asks.
-#[tactic(auto, unfolding(crate::specs::Saved::lighting_format))]
+#[tactic(auto, unfolding(crate::specs::SavedKept::lighting_format))]
 pub fn put_lighting(into: &mut Packer, s: &Numbers) -> Result<(), AllocError>
-    ensures { OnOk result (into.new ≡ bytes_written lighting_format into.old (lighting_numbers (numbers_seen s.now))) }
+    ensures { OnOk result (into.new ≡ bytes_written lighting_format into.old (lighting_numbers s.now)) }
 {
     into.put_u16(s.material.diffuse)?;
     into.put_u16(s.material.ambient)?;
@@ -166,14 +165,14 @@ fn take_table(from: &mut Unpacker) -> Result<[u8; 128], Unpacked>
 }
 
 /// Takes all that lighting asks.
-#[tactic(auto, using(crate::proofs::Lit::four_lights), unfolding(crate::specs::Saved::lighting_format))]
+#[tactic(auto, using(crate::proofs::Lit::four_lights), unfolding(crate::specs::SavedKept::lighting_format))]
 pub fn take_lighting(from: &mut Unpacker, at: u64) -> Result<Lighting, Unpacked>
-    ensures reads { GivesRead lighting_seen result from.new (read_format lighting_format at from.old) }
+    ensures reads { GivesRead (λ n. n) result from.new (read_format lighting_format at from.old) }
     ensures diffuse { IfOk result (λ n. n.material.diffuse < 2 ^ 15) }
     ensures ambient { IfOk result (λ n. n.material.ambient < 2 ^ 15) }
     ensures specular { IfOk result (λ n. n.material.specular < 2 ^ 15) }
     ensures emission { IfOk result (λ n. n.material.emission < 2 ^ 15) }
-    ensures lights { IfOk result (λ n. (i : ℕ) → (slice_index_or (map light_seen n.lights) i no_light).colour < 2 ^ 15) }
+    ensures lights { IfOk result (λ n. (i : ℕ) → (slice_index_or n.lights i no_light).colour < 2 ^ 15) }
 {
     let diffuse = from.take_half_at_most(0x7FFF)?;
     let ambient = from.take_half_at_most(0x7FFF)?;

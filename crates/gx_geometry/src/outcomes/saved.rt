@@ -5,8 +5,8 @@ ghost use Rattle.ds_state.specs.Formats.{bytes_written, number_code};
 ghost use Rattle.ds_state.specs.Reading.{GivesRead, read_code, read_format, ruled};
 ghost use Rattle.gx_geometry.specs.Bounds.{is_place, is_told};
 ghost use Rattle.gx_geometry.specs.BoundLaws.{AreLimited, ArePlaces};
-ghost use Rattle.gx_geometry.specs.Saved.{holds_recent, results_format, test_results};
-ghost use Rattle.gx_geometry.specs.SavedKept.{results_seen};
+ghost use Rattle.gx_geometry.specs.Saved.{holds_recent};
+ghost use Rattle.gx_geometry.specs.SavedKept.{results_format, results_seen};
 
 use crate::capped::Capped;
 use crate::lists::{POLYGONS, VERTICES};
@@ -17,7 +17,7 @@ use ds_state::{Packer, Unpacked, Unpacker, holds, put_list, take_each};
 use std::alloc::AllocError;
 
 /// Puts the results of tests.
-#[tactic(auto, unfolding(crate::specs::Saved::results_format))]
+#[tactic(auto, unfolding(crate::specs::SavedKept::results_format))]
 pub fn put_results(into: &mut Packer, results: &Results) -> Result<(), AllocError>
     ensures { OnOk result (into.new ≡ bytes_written results_format into.old (results_seen results.now)) }
 {
@@ -30,7 +30,7 @@ pub fn put_results(into: &mut Packer, results: &Results) -> Result<(), AllocErro
 }
 
 /// Takes the results of tests; the lists' lengths and overflow are 0.
-#[tactic(auto, unfolding(crate::specs::Saved::results_format))]
+#[tactic(auto, unfolding(crate::specs::SavedKept::results_format))]
 pub fn take_results(from: &mut Unpacker, at: u64) -> Result<Results, Unpacked>
     ensures { GivesRead results_seen result from.new (read_format results_format at from.old) }
 {

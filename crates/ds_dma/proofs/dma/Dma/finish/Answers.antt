@@ -1,7 +1,7 @@
 use Rattle.std.proofs.Common.{◌≡◌, ◌∙◌, sym, subst, ap, true}
 use Rattle.ds_base.specs.Schedules.{IsEarly}
-use Rattle.ds_dma.specs.ChannelsKept.{channel_seen}
-use Rattle.ds_dma.specs.Channels.{ChannelState, IsChannel, after_unit}
+use Rattle.ds_dma.specs.declared.channels.Channel.{Channel}
+use Rattle.ds_dma.specs.Channels.{IsChannel, after_unit}
 use Rattle.ds_dma.specs.Controls.{is_enabled}
 use Rattle.ds_dma.specs.States.{DmaState, channel_at, due_channel}
 use Rattle.ds_dma.proofs.Early.{taken_early}
@@ -13,14 +13,14 @@ pub put-requires-clause-is : goal.put-requires-clause-is
 put-requires-clause-is c =
     let s = c.args.self.now in
     let which = c.least-which.result in
-    let seen : channel_seen c.channel-channel.result ≡ due_channel s = c.channel-channel.ensures.seen ∙ ap (channel_at s.channels) c.least-which.ensures.least in
-    let on = subst (λ (x : ChannelState). is_enabled x.cnt ≡ true) (sym seen) (due_is_on s c.laws.ensures c.requires.due) in
-    let rest : channel_seen c.without_first-rest.result ≡ after_unit s.proc which (channel_seen c.channel-channel.result) =
-    c.without_first-rest.ensures ∙ ap (λ (x : DmaState). after_unit x.proc which (channel_seen c.channel-channel.result)) c.self.view_is in
-    subst (IsChannel s.proc which) (sym rest) (taken_is s.proc which (channel_seen c.channel-channel.result) c.channel-channel.ensures.is on)
+    let seen : c.channel-channel.result ≡ due_channel s = c.channel-channel.ensures.seen ∙ ap (channel_at s.channels) c.least-which.ensures.least in
+    let on = subst (λ (x : Channel). is_enabled x.cnt ≡ true) (sym seen) (due_is_on s c.laws.ensures c.requires.due) in
+    let rest : c.without_first-rest.result ≡ after_unit s.proc which c.channel-channel.result =
+    c.without_first-rest.ensures ∙ ap (λ (x : DmaState). after_unit x.proc which c.channel-channel.result) c.self.view_is in
+    subst (IsChannel s.proc which) (sym rest) (taken_is s.proc which c.channel-channel.result c.channel-channel.ensures.is on)
 
 pub put-requires-clause-trigger : goal.put-requires-clause-trigger
 put-requires-clause-trigger c =
-    let old = channel_seen c.channel-channel.result in
-    subst (λ (x : ChannelState). IsEarly x.trigger) (sym c.without_first-rest.ensures)
+    let old = c.channel-channel.result in
+    subst (λ (x : Channel). IsEarly x.trigger) (sym c.without_first-rest.ensures)
     (taken_early c.self.inside.proc c.least-which.result old c.channel-channel.ensures.early)

@@ -1,6 +1,5 @@
 use Rattle.std.proofs.Common.{◌≡◌, [], ◌∷◌, ◌∙◌, sym, subst, ap, map, false}
 use Rattle.ds_base.specs.Schedules.{Reschedules}
-use Rattle.ds_dma.specs.ChannelsKept.{channel_seen}
 use Rattle.ds_dma.specs.Channels.{triggered}
 use Rattle.ds_dma.specs.declared.controls.Cause.{Cause}
 use Rattle.ds_dma.specs.States.{DmaState, HasEarlyTicks, IsDma, AreReadyLater, awaits_geometry, channel_at, channel_due, dma_triggered}
@@ -14,7 +13,7 @@ use Rattle.ds_dma.proofs.dma.Dma.trigger.Goals as goal
 abbrev new : (c : goal.After-self-1) → DmaState
 new c = record {
   proc = c.self.inside.proc;
-  channels = channel_seen c.after.result ∷ channel_seen c.after-2.result ∷ channel_seen c.after-3.result ∷ channel_seen c.after-4.result ∷ [];
+  channels = c.after.result ∷ c.after-2.result ∷ c.after-3.result ∷ c.after-4.result ∷ [];
   last = c.self.inside.last;
 }
 
@@ -23,14 +22,14 @@ new_is c =
     let s = c.args.self.now in
     let f = triggered s.proc c.args.cause c.args.now in
     let at = channel_at s.channels in
-    let one = c.after.ensures ∙ ap (λ (x : DmaState). triggered x.proc c.args.cause c.args.now (channel_seen c.channel.result)) c.self.view_is ∙ ap f c.channel.ensures.seen in
-    let two = c.after-2.ensures ∙ ap (λ (x : DmaState). triggered x.proc c.args.cause c.args.now (channel_seen c.channel-2.result)) c.self.view_is ∙ ap f c.channel-2.ensures.seen in
-    let three = c.after-3.ensures ∙ ap (λ (x : DmaState). triggered x.proc c.args.cause c.args.now (channel_seen c.channel-3.result)) c.self.view_is ∙ ap f c.channel-3.ensures.seen in
-    let four = c.after-4.ensures ∙ ap (λ (x : DmaState). triggered x.proc c.args.cause c.args.now (channel_seen c.channel-4.result)) c.self.view_is ∙ ap f c.channel-4.ensures.seen in
+    let one = c.after.ensures ∙ ap (λ (x : DmaState). triggered x.proc c.args.cause c.args.now c.channel.result) c.self.view_is ∙ ap f c.channel.ensures.seen in
+    let two = c.after-2.ensures ∙ ap (λ (x : DmaState). triggered x.proc c.args.cause c.args.now c.channel-2.result) c.self.view_is ∙ ap f c.channel-2.ensures.seen in
+    let three = c.after-3.ensures ∙ ap (λ (x : DmaState). triggered x.proc c.args.cause c.args.now c.channel-3.result) c.self.view_is ∙ ap f c.channel-3.ensures.seen in
+    let four = c.after-4.ensures ∙ ap (λ (x : DmaState). triggered x.proc c.args.cause c.args.now c.channel-4.result) c.self.view_is ∙ ap f c.channel-4.ensures.seen in
     ap (λ (x : DmaState). record x { channels = (new c).channels }) c.self.view_is
-    ∙ ap (λ x. record s { channels = x ∷ channel_seen c.after-2.result ∷ channel_seen c.after-3.result ∷ channel_seen c.after-4.result ∷ [] }) one
-    ∙ ap (λ x. record s { channels = f (at 0) ∷ x ∷ channel_seen c.after-3.result ∷ channel_seen c.after-4.result ∷ [] }) two
-    ∙ ap (λ x. record s { channels = f (at 0) ∷ f (at 1) ∷ x ∷ channel_seen c.after-4.result ∷ [] }) three
+    ∙ ap (λ x. record s { channels = x ∷ c.after-2.result ∷ c.after-3.result ∷ c.after-4.result ∷ [] }) one
+    ∙ ap (λ x. record s { channels = f (at 0) ∷ x ∷ c.after-3.result ∷ c.after-4.result ∷ [] }) two
+    ∙ ap (λ x. record s { channels = f (at 0) ∷ f (at 1) ∷ x ∷ c.after-4.result ∷ [] }) three
     ∙ ap (λ x. record s { channels = f (at 0) ∷ f (at 1) ∷ f (at 2) ∷ x ∷ [] }) four
     ∙ ap (λ xs. record s { channels = map f xs }) (sym (four_are s.channels c.laws.ensures.four))
 

@@ -1,22 +1,22 @@
 use Rattle.std.proofs.Common.{◌≡◌, ◌∙◌, sym, subst, ap, slice_set}
 use Rattle.ds_base.specs.Schedules.{IsEarly, IsLater}
-use Rattle.ds_timers.specs.TimersKept.{timer_seen}
-use Rattle.ds_timers.specs.Timing.{TimerState, IsTimer, ChangesControl, CountsFrom, SchedulesOne, timer_at, timer_due, kept_control, controlled, control_set}
+use Rattle.ds_timers.specs.declared.timers.Timer.{Timer}
+use Rattle.ds_timers.specs.Timing.{IsTimer, ChangesControl, CountsFrom, SchedulesOne, timer_at, timer_due, kept_control, controlled, control_set}
 use Rattle.ds_timers.proofs.Changed.{controlled_is, controlled_early, kept_twice, control_changes, control_counts, control_schedules}
 use Rattle.ds_timers.proofs.Four.{one_reschedules}
 use Rattle.ds_timers.proofs.timers.Timers.set_control.Goals as goal
 
 pub put-requires-clause-is : goal.put-requires-clause-is
 put-requires-clause-is c =
-    let t = timer_seen c.timer.result in
+    let t = c.timer.result in
     let now = c.args.now in
     subst (IsTimer c.args.which) (sym c.with_control-timer.ensures)
     (controlled_is c.args.which t (kept_control c.args.value) now c.timer.ensures.is (kept_twice c.args.value))
 
 pub put-requires-clause-early : goal.put-requires-clause-early
 put-requires-clause-early c =
-    subst (λ (x : TimerState). IsEarly x.since) (sym c.with_control-timer.ensures)
-    (controlled_early c.args.which (timer_seen c.timer.result) (kept_control c.args.value) c.args.now c.timer.ensures.early c.requires.early)
+    subst (λ (x : Timer). IsEarly x.since) (sym c.with_control-timer.ensures)
+    (controlled_early c.args.which c.timer.result (kept_control c.args.value) c.args.now c.timer.ensures.early c.requires.early)
 
 new_is : (c : goal.After-put) → c.put.new.self ≡ control_set c.args.self.now c.args.which c.args.value c.args.now
 new_is c =

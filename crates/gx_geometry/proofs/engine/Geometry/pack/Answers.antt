@@ -1,0 +1,11 @@
+use Rattle.std.proofs.Common.{rules, ◌≡◌, sym, ◌∙◌}
+use Rattle.ds_state.specs.Formats.{bytes_written}
+use Rattle.gx_geometry.specs.SavedKept.{geometry_parts}
+use Rattle.gx_geometry.proofs.SavedParts.{geometry_writes}
+use Rattle.gx_geometry.proofs.engine.Geometry.pack.Goals as goal
+
+pub returns : goal.returns
+unfolding geometry_parts
+returns c =
+    let parts : c.pack-2.new.into ≡ bytes_written geometry_parts c.args.into.now c.args.self.now = search rules in
+    parts ∙ sym (geometry_writes c.args.into.now c.args.self.now)

@@ -96,7 +96,7 @@ gx_holds asked at gx stands = (both _ _ stands.0.1.2.2.1).0
 
 geometry_run : (at : ℕ) (g : GeometryState) → StandsFor geometry_format at g → g.numbers.run ≤ at
 unfolding geometry_format
-geometry_run at g stands = le_of g.numbers.run at stands.0.1.2.2.1.1.2.1
+geometry_run at g stands = le_of g.numbers.run at stands.0.1.2.2.2.2.2.2.2.2.2.2.2.2.2.2.2.2.2.2.2.2.2.1.1.1.1.2.1
 
 pub gx_run : (asked : Asked) (at : ℕ) (gx : GxState) → StandsFor (gx_format_by asked) at gx → gx.geometry.numbers.run ≤ at
 unfolding gx_format_by

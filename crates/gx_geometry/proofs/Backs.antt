@@ -7,7 +7,7 @@ use Rattle.gx_geometry.specs.declared.numbers.Kind.TheVariants.{Triangles, Quads
 use Rattle.gx_geometry.specs.declared.polygons.Shape.{Shape}
 use Rattle.gx_geometry.specs.declared.polygons.Shape.TheVariants.{Triangle, TurnedTriangle, Quad, StripQuad}
 use Rattle.gx_geometry.specs.declared.polygons.Vertex.{Vertex}
-use Rattle.gx_geometry.specs.Polygons.{place_of, corners, completed, no_place, place_since, place_among, has_corners, may_be_seen, indices_of, polygon_with, polygon_at, polygon_by, polygon_of, polygon_among}
+use Rattle.gx_geometry.specs.Polygons.{last_place, corners, completed, no_place, place_since, place_among, has_corners, may_be_seen, indices_of, polygon_with, polygon_at, polygon_by, polygon_of, polygon_among}
 use Rattle.gx_geometry.specs.Backs.{shape_of, corners_back, index_back, reaches_back, seen_back, indices_back, polygon_back, polygon_by_shape}
 use Rattle.gx_geometry.specs.declared.numbers.Numbers.{Numbers}
 
@@ -24,15 +24,15 @@ ArePairs last (p ∷ ps) [] = ⊥
 unfoldable pub Agrees : (ℕ → ℕ) → List ℕ → ℕ → Type 0
 Agrees stands four last = (p b : ℕ) → last ≡ p + b → b ≤ 3 → stands p ≡ index_back four b
 
-module _ (stands : ℕ → ℕ) (four : List ℕ) (came : List Vertex) (a : Numbers) (agrees : Agrees stands four (place_of a)) where
-  indices_same : (ps bs : List ℕ) → ArePairs (place_of a) ps bs → map stands ps ≡ map (index_back four) bs
+module _ (stands : ℕ → ℕ) (four : List ℕ) (came : List Vertex) (a : Numbers) (agrees : Agrees stands four (last_place a)) where
+  indices_same : (ps bs : List ℕ) → ArePairs (last_place a) ps bs → map stands ps ≡ map (index_back four) bs
   unfolding ArePairs Agrees
   indices_same [] [] h = refl
   indices_same (p ∷ ps) (b ∷ bs) h = rw (agrees p b h.0.0 h.0.1, indices_same ps bs h.1) refl
   indices_same [] (b ∷ bs) h = absurd h
   indices_same (p ∷ ps) [] h = absurd h
 
-  all_same : (ps bs : List ℕ) → ArePairs (place_of a) ps bs →
+  all_same : (ps bs : List ℕ) → ArePairs (last_place a) ps bs →
       list_all (λ p. not (stands p == no_place)) ps ≡ list_all (λ b. not (index_back four b == no_place)) bs
   unfolding ArePairs Agrees
   all_same [] [] h = refl
@@ -40,11 +40,11 @@ module _ (stands : ℕ → ℕ) (four : List ℕ) (came : List Vertex) (a : Numb
   all_same [] (b ∷ bs) h = absurd h
   all_same (p ∷ ps) [] h = absurd h
 
-  has_same : (ps : List ℕ) (shape : Shape) → ArePairs (place_of a) ps (corners_back shape) → has_corners stands ps ≡ reaches_back four shape
+  has_same : (ps : List ℕ) (shape : Shape) → ArePairs (last_place a) ps (corners_back shape) → has_corners stands ps ≡ reaches_back four shape
   unfolding has_corners reaches_back
   has_same ps shape h = all_same ps (corners_back shape) h
 
-  seen_same : (ps : List ℕ) (shape : Shape) → ArePairs (place_of a) ps (corners_back shape)
+  seen_same : (ps : List ℕ) (shape : Shape) → ArePairs (last_place a) ps (corners_back shape)
       → may_be_seen stands came a ps ≡ seen_back four came a.attributes shape
   unfolding may_be_seen seen_back ArePairs Agrees
   seen_same (p ∷ q ∷ r ∷ ps) Triangle h = rw (agrees p 2 h.0.0 h.0.1, agrees q 1 h.1.0.0 h.1.0.1, agrees r 0 h.1.1.0.0 h.1.1.0.1) refl
@@ -71,11 +71,11 @@ module _ (stands : ℕ → ℕ) (four : List ℕ) (came : List Vertex) (a : Numb
   lengths last [] (b ∷ bs) h = absurd h
   lengths last (p ∷ ps) [] h = absurd h
 
-  with_same : (ps : List ℕ) (shape : Shape) → ArePairs (place_of a) ps (corners_back shape) → polygon_with stands a ps ≡ polygon_back four a shape
+  with_same : (ps : List ℕ) (shape : Shape) → ArePairs (last_place a) ps (corners_back shape) → polygon_with stands a ps ≡ polygon_back four a shape
   unfolding polygon_with polygon_back indices_of indices_back
-  with_same ps shape h = rw (indices_same ps (corners_back shape) h, lengths (place_of a) ps (corners_back shape) h) refl
+  with_same ps shape h = rw (indices_same ps (corners_back shape) h, lengths (last_place a) ps (corners_back shape) h) refl
 
-  polygon_same : (ps : List ℕ) (shape : Shape) → ArePairs (place_of a) ps (corners_back shape) →
+  polygon_same : (ps : List ℕ) (shape : Shape) → ArePairs (last_place a) ps (corners_back shape) →
       polygon_at stands came a ps ≡ polygon_by_shape (Some shape) four came a
   polygon_same ps shape h = rw (has_same ps shape h, seen_same ps shape h, with_same ps shape h) refl
 
@@ -170,26 +170,26 @@ found Quads place = quads place
 found TriangleStrip place = strip place
 found QuadStrip place = quad_strip place
 
-by_agreeing : (stands : ℕ → ℕ) (four : List ℕ) (came : List Vertex) (a : Numbers) → Agrees stands four (place_of a)
-    → polygon_by (completed a.kind (place_of a)) stands came a ≡ polygon_by_shape (shape_of a.kind (place_of a)) four came a
+by_agreeing : (stands : ℕ → ℕ) (four : List ℕ) (came : List Vertex) (a : Numbers) → Agrees stands four (last_place a)
+    → polygon_by (completed a.kind (last_place a)) stands came a ≡ polygon_by_shape (shape_of a.kind (last_place a)) four came a
 unfolding Found
-by_agreeing stands four came a agrees = elim (found a.kind (place_of a)) [
+by_agreeing stands four came a agrees = elim (found a.kind (last_place a)) [
   | inl none ↦ rw (none.0, none.1) refl
   | inr some ↦ rw (some.2, some.3) (polygon_same stands four came a agrees (corners a.kind some.0) some.1 some.4)
 ]
 
-among_agrees : (four : List ℕ) (a : Numbers) → Agrees (place_among four a) four (place_of a)
+among_agrees : (four : List ℕ) (a : Numbers) → Agrees (place_among four a) four (last_place a)
 unfolding Agrees
 among_agrees four a p b e few =
-    let i : p + 3 - place_of a ≡ 3 - b = omega (arith, e) in ap (λ (n : ℕ). slice_index_or four n no_place) i
+    let i : p + 3 - last_place a ≡ 3 - b = omega (arith, e) in ap (λ (n : ℕ). slice_index_or four n no_place) i
 
 -- the polygon that the last vertex completes
-pub by_shape : (four : List ℕ) (came : List Vertex) (a : Numbers) → polygon_among four came a ≡ polygon_by_shape (shape_of a.kind (place_of a)) four came a
+pub by_shape : (four : List ℕ) (came : List Vertex) (a : Numbers) → polygon_among four came a ≡ polygon_by_shape (shape_of a.kind (last_place a)) four came a
 unfolding polygon_among
 by_shape four came a = by_agreeing (place_among four a) four came a (among_agrees four a)
 
 -- the same by all vertices that came, where the last four stand by them
-pub same_polygon : (four : List ℕ) (came : List Vertex) (a : Numbers) → Agrees (place_since came a) four (place_of a)
+pub same_polygon : (four : List ℕ) (came : List Vertex) (a : Numbers) → Agrees (place_since came a) four (last_place a)
     → polygon_among four came a ≡ polygon_of came a
 unfolding polygon_of
 same_polygon four came a agrees = by_shape four came a ∙ sym (by_agreeing (place_since came a) four came a agrees)

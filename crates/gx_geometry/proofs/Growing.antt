@@ -10,7 +10,7 @@ use Rattle.gx_geometry.specs.declared.polygons.Vertex.{Vertex}
 use Rattle.gx_geometry.specs.declared.polygons.Polygon.{Polygon}
 use Rattle.gx_geometry.specs.declared.numbers.Numbers.{Numbers}
 use Rattle.gx_geometry.specs.Changes.{numbers_after, gives_vertex}
-use Rattle.gx_geometry.specs.Polygons.{vertex_of, place_of, no_place, place_since, polygon_of, polygon_among, polygon_at, polygon_by, corners, completed, has_corners, most_vertices, most_polygons}
+use Rattle.gx_geometry.specs.Polygons.{vertex_of, last_place, no_place, place_since, polygon_of, polygon_among, polygon_at, polygon_by, corners, completed, has_corners, most_vertices, most_polygons}
 use Rattle.gx_geometry.specs.ListLaws.{GeometryAct, Command, ClearError, ClearOverflow, arrivals, polygons_of, vertices_of}
 use Rattle.gx_geometry.specs.States.{OutcomeState, GeometryState, IsFresh, AreListsSince, four_recent, none_recent, then_recent, vertex_dropped, polygon_added, vertex_added, arrived, tested, outcome_after, geometry_after, geometry_error_cleared, overflow_cleared, after_all}
 use Rattle.gx_geometry.proofs.Backs.{Agrees, same_polygon}
@@ -73,7 +73,7 @@ none_dropped (Some k) came a h = kind_dropped a.kind k came a h
 
 pub dropped : (came : List Vertex) (a : Numbers) → most_vertices < length came → polygon_of came a ≡ None
 unfolding polygon_of
-dropped came a h = none_dropped (completed a.kind (place_of a)) came a h
+dropped came a h = none_dropped (completed a.kind (last_place a)) came a h
 
 -- a vertex comes: both lists go on as those of all vertices and polygons, cut at the limits
 pub arrived_room : (a : Numbers) (o : OutcomeState) → length o.vertices < most_vertices →
@@ -242,27 +242,27 @@ back_is came run last p (suc (suc zero)) four d c b a few = grind (arith, b)
 back_is came run last p (suc (suc (suc zero))) four d c b a few = grind (arith, a)
 back_is came run last p (suc (suc (suc (suc n)))) four d c b a few = absurd (omega (arith, few))
 
-since_is : (came : List Vertex) (a : Numbers) (n p b : ℕ) → length came ≡ n + 1 → n < most_vertices → place_of a ≡ p + b
-    → place_since came a p ≡ (if nat_le b n && (nat_le b (place_of a) || b == 0) then n - b else no_place)
+since_is : (came : List Vertex) (a : Numbers) (n p b : ℕ) → length came ≡ n + 1 → n < most_vertices → last_place a ≡ p + b
+    → place_since came a p ≡ (if nat_le b n && (nat_le b (last_place a) || b == 0) then n - b else no_place)
 since_is came a n p b long few e = grind (arith, long, few, e)
 
 agree : (a : Numbers) (o : OutcomeState) (came : List Vertex) → length came < most_vertices → length o.vertices ≡ length came
-    → AreBack (length came) (place_of a) o.recent
-    → Agrees (place_since (came ++ vertex_of a ∷ []) a) (four_recent o) (place_of a)
+    → AreBack (length came) (last_place a) o.recent
+    → Agrees (place_since (came ++ vertex_of a ∷ []) a) (four_recent o) (last_place a)
 unfolding Agrees
 agree a o came room long back p b e few =
     let one : length (came ++ vertex_of a ∷ []) ≡ length came + 1 = length-append came (vertex_of a ∷ []) in
     since_is (came ++ vertex_of a ∷ []) a (length came) p b one room e
-    ∙ sym (back_is (length came) (place_of a) (place_of a) p b (four_recent o) long back.third back.second back.first few)
+    ∙ sym (back_is (length came) (last_place a) (last_place a) p b (four_recent o) long back.third back.second back.first few)
 
-same_made : (a : Numbers) (run : ℕ) (o : OutcomeState) (came : List Vertex) (made : List Polygon) → place_of a ≡ run → Holds o came made
+same_made : (a : Numbers) (run : ℕ) (o : OutcomeState) (came : List Vertex) (made : List Polygon) → last_place a ≡ run → Holds o came made
     → IsLinked came run o.recent →
     SamePolygon a o came
 unfolding SamePolygon IsLinked
 same_made a run o came made place held linked room =
     let same : o.vertices ≡ came = held.vertices_are ∙ take_all most_vertices came (omega (arith, room)) in
     let long : length o.vertices ≡ length came = ap (λ (xs : List Vertex). length xs) same in
-    let back : AreBack (length came) (place_of a) o.recent =
+    let back : AreBack (length came) (last_place a) o.recent =
     subst (λ (n : ℕ). AreBack (length came) n o.recent) (sym place) (linked (omega (arith, room))) in
     ap (λ (xs : List Vertex). polygon_among (four_recent o) (xs ++ vertex_of a ∷ []) a) same
     ∙ same_polygon (four_recent o) (came ++ vertex_of a ∷ []) a (agree a o came room long back)
@@ -292,7 +292,7 @@ pub same_given : (command : GeometryCommand) (params : List ℕ) (s : Numbers) (
     → SamePolygon (numbers_after command params s) (tested command params s o) came
 same_given command params s o came made held linked gives =
     let a = numbers_after command params s in
-    let place : place_of a ≡ s.run = let run = run_by_command command params s in let one = run_given command s.run gives in omega (arith, run, one) in
+    let place : last_place a ≡ s.run = let run = run_by_command command params s in let one = run_given command s.run gives in omega (arith, run, one) in
     same_made a s.run (tested command params s o) came made place (tested_holds command params s o came made held)
     (subst (IsLinked came s.run) (sym (tested_recent command params s o gives)) linked)
 

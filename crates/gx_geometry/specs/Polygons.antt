@@ -33,8 +33,8 @@ completed TriangleStrip place = if nat_lt place 2 then None else Some (place - 2
 completed QuadStrip place = if nat_lt place 3 || (place % 2 == 0) then None else Some ((place - 3) / 2)
 
 -- the place in its run of the last vertex that came, counted from 0; `a` has the numbers as that vertex's command leaves them
-abbrev pub place_of : Numbers → ℕ
-place_of a = a.run - 1
+abbrev pub last_place : Numbers → ℕ
+last_place a = a.run - 1
 
 -- how many vertices and polygons a swap takes (GBATEK, "DS 3D Overview")
 abbrev pub most_vertices : ℕ
@@ -71,11 +71,11 @@ no_place = 0xFFFF
 -- stands nowhere, and no polygon is made.
 abbrev pub place_since : List Vertex → Numbers → ℕ → ℕ
 place_since came a place =
-    if nat_le (length came) most_vertices && nat_lt (place_of a) (length came + place) then length came + place - (place_of a + 1) else no_place
+    if nat_le (length came) most_vertices && nat_lt (last_place a) (length came + place) then length came + place - (last_place a + 1) else no_place
 
 -- the same where it is told where the run's last four vertices stand, the oldest first
 abbrev pub place_among : List ℕ → Numbers → ℕ → ℕ
-place_among four a place = slice_index_or four (place + 3 - place_of a) no_place
+place_among four a place = slice_index_or four (place + 3 - last_place a) no_place
 
 -- none of a polygon's corners stands nowhere
 unfoldable pub has_corners : (ℕ → ℕ) → List ℕ → Bool
@@ -111,7 +111,7 @@ polygon_by (Some k) stands came a = polygon_at stands came a (corners a.kind k)
 
 -- by all vertices that came since the swap, and by where the run's last four stand in the list
 unfoldable pub polygon_of : List Vertex → Numbers → Option Polygon
-polygon_of came a = polygon_by (completed a.kind (place_of a)) (place_since came a) came a
+polygon_of came a = polygon_by (completed a.kind (last_place a)) (place_since came a) came a
 
 unfoldable pub polygon_among : List ℕ → List Vertex → Numbers → Option Polygon
-polygon_among four came a = polygon_by (completed a.kind (place_of a)) (place_among four a) came a
+polygon_among four came a = polygon_by (completed a.kind (last_place a)) (place_among four a) came a

@@ -90,9 +90,10 @@ holds_recent first second third at long =
 abbrev pub signed_at : List ℤ → ℕ → ℤ
 signed_at numbers i = slice_index_or numbers i (pos 0)
 
--- The whole: the matrices; what vertices and polygons have that come next, which are the colour, the vertex and the texture coordinates given last, and
--- those in force, the attributes set and in force, the texture and its palette, and the viewport; what lighting asks, which are the material, the
--- shininess table of 128 bytes and the four lights; the run, which has no more vertices than there were ticks; the results of tests; the open lists; and those of the last swap.
+-- The whole: the matrices; what vertices and polygons have that come next, which are the colour, the vertex and the texture coordinates given
+-- last, and those in force, the attributes set and in force, the texture and its palette, and the viewport; what lighting asks, which are the
+-- material, the shininess table of 128 bytes and the four lights; the run, which has no more vertices than there were ticks; the results of tests;
+-- the open lists; and those of the last swap.
 unfoldable pub geometry_format : Format GeometryState GeometryState
 geometry_format = do
   stacks ← its stacks_format (λ g. g.numbers.stacks)

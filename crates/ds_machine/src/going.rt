@@ -85,19 +85,19 @@ impl Parts {
     #[inline(always)]
     fn step_by<R: Runner>(
         &mut self,
-        next_event: NextEvent,
+        next_event: &NextEvent,
         proc: Proc,
         until: Tick,
         end: u64,
         limit: u64,
     ) -> Gone
         requires early { until.0 ≤ 2 ^ 56 }
-        requires goes { GoesFast until.0 proc next_event end limit self.old }
-        ensures { WentFast until.0 proc next_event end limit self.old result self.new }
+        requires goes { GoesFast until.0 proc next_event.now end limit self.old }
+        ensures { WentFast until.0 proc next_event.now end limit self.old result self.new }
     {
         let due = self.processor(proc).due;
         let ahead = limit <= due;
-        if ahead && !self.may_go_on(next_event, proc, until, end, Tick(due)) {
+        if ahead && !self.may_go_on(*next_event, proc, until, end, Tick(due)) {
             return Gone::Over;
         }
         let fast = self.take_fast::<R>(proc, Tick(due), false, ahead);
@@ -118,15 +118,15 @@ impl Parts {
     #[inline(never)]
     fn step_list(
         &mut self,
-        next_event: NextEvent,
+        next_event: &NextEvent,
         proc: Proc,
         until: Tick,
         end: u64,
         limit: u64,
     ) -> Gone
         requires early { until.0 ≤ 2 ^ 56 }
-        requires goes { GoesFast until.0 proc next_event end limit self.old }
-        ensures { WentFast until.0 proc next_event end limit self.old result self.new }
+        requires goes { GoesFast until.0 proc next_event.now end limit self.old }
+        ensures { WentFast until.0 proc next_event.now end limit self.old result self.new }
     {
         self.step_by::<Lists>(next_event, proc, until, end, limit)
     }
@@ -135,15 +135,15 @@ impl Parts {
     #[inline(always)]
     pub fn step_fast(
         &mut self,
-        next_event: NextEvent,
+        next_event: &NextEvent,
         proc: Proc,
         until: Tick,
         end: u64,
         limit: u64,
     ) -> Gone
         requires early { until.0 ≤ 2 ^ 56 }
-        requires goes { GoesFast until.0 proc next_event end limit self.old }
-        ensures { WentFast until.0 proc next_event end limit self.old result self.new }
+        requires goes { GoesFast until.0 proc next_event.now end limit self.old }
+        ensures { WentFast until.0 proc next_event.now end limit self.old result self.new }
     {
         match self.step_by::<Singles>(next_event, proc, until, end, limit) {
             Gone::List => self.step_list(next_event, proc, until, end, limit),

@@ -180,7 +180,7 @@ impl Machine {
             return false;
         }
         'steps: loop {
-            match self.parts.step_fast(next_event, proc, until, end, limit) {
+            match self.parts.step_fast(&next_event, proc, until, end, limit) {
                 Gone::Took => {}
                 Gone::Over => return true,
                 Gone::Unknown | Gone::List => return false,

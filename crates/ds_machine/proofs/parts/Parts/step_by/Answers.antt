@@ -22,10 +22,10 @@ returns-then-not-may_go_on g c = (
       let past = c.if-ahead.true in
       let due = ap (λ (p : ProcessorState). p.due) c.processor.ensures in
       elim (c.may_go_on.ensures.no c.if-not-may_go_on.true) [
-        | inl le ↦ over_at_end c.args.next_event s proc until c.args.end c.args.limit n c.requires.goes due c.requires.early le b
+        | inl le ↦ over_at_end c.args.next_event.now s proc until c.args.end c.args.limit n c.requires.goes due c.requires.early le b
         | inr k ↦
-            over_past c.args.next_event s proc until c.args.end c.args.limit n c.requires.goes due c.requires.early (omega (arith, past))
-            (λ lt ahead. k (ahead_may s proc n (is_due c.args.next_event s proc until c.args.end c.args.limit n c.requires.goes due c.requires.early) ahead)) b
+            over_past c.args.next_event.now s proc until c.args.end c.args.limit n c.requires.goes due c.requires.early (omega (arith, past))
+            (λ lt ahead. k (ahead_may s proc n (is_due c.args.next_event.now s proc until c.args.end c.args.limit n c.requires.goes due c.requires.early) ahead)) b
       ]),
   refl,
 )
@@ -39,12 +39,12 @@ take_fast-fast-requires-clause-early g c =
       | else-ahead-via-then-ahead+else-not-may_go_on x ↦ (let lt = (x.may_go_on.ensures.yes x.if-not-may_go_on.false).0 in omega (arith, lt, early))
       | else-ahead-via-else-ahead x ↦
           (let less = x.if-ahead.false in
-          let lt = below_turn c.args.next_event c.args.self.now c.args.proc c.args.until.0 c.args.end c.args.limit n c.requires.goes due early (omega (arith, less)) in
+          let lt = below_turn c.args.next_event.now c.args.self.now c.args.proc c.args.until.0 c.args.end c.args.limit n c.requires.goes due early (omega (arith, less)) in
           omega (arith, lt, early))
     ]
 
 pub take_fast-fast-requires-clause-line : goal.take_fast-fast-requires-clause-line
-take_fast-fast-requires-clause-line g c = sym c.requires.goes.down ∙ line_is c.args.next_event c.args.self.now c.requires.goes.kept c.args.proc
+take_fast-fast-requires-clause-line g c = sym c.requires.goes.down ∙ line_is c.args.next_event.now c.args.self.now c.requires.goes.kept c.args.proc
 
 pub returns-then-fast : goal.returns-then-fast
 returns-then-fast g c = (
@@ -58,9 +58,9 @@ returns-then-fast g c = (
       elim c.else-ahead.branch [
         | else-ahead-via-then-ahead+else-not-may_go_on x ↦
             (let past = x.if-ahead.true in
-            over_past c.args.next_event s proc until c.args.end c.args.limit n c.requires.goes due c.requires.early (omega (arith, past))
+            over_past c.args.next_event.now s proc until c.args.end c.args.limit n c.requires.goes due c.requires.early (omega (arith, past))
             (λ lt ahead. c.take_fast-fast.ensures.leaves c.if-fast.true
-            (ahead_data s proc n (is_due c.args.next_event s proc until c.args.end c.args.limit n c.requires.goes due c.requires.early) ahead)) b)
+            (ahead_data s proc n (is_due c.args.next_event.now s proc until c.args.end c.args.limit n c.requires.goes due c.requires.early) ahead)) b)
         | else-ahead-via-else-ahead x ↦ (let lt = x.if-ahead.false in let e = left.1 in absurd (grind (arith, lt, e)))
       ]),
   c.take_fast-fast.ensures.none (c.take_fast-fast.ensures.left c.if-fast.true).0,
@@ -77,7 +77,7 @@ go_on-requires-clause-early g c =
       | else-ahead-via-then-ahead+else-not-may_go_on x ↦ (let lt = (x.may_go_on.ensures.yes x.if-not-may_go_on.false).0 in omega (arith, lt, early))
       | else-ahead-via-else-ahead x ↦
           (let less = x.if-ahead.false in
-          let lt = below_turn c.args.next_event c.args.self.now c.args.proc c.args.until.0 c.args.end c.args.limit n c.requires.goes due early (omega (arith, less)) in
+          let lt = below_turn c.args.next_event.now c.args.self.now c.args.proc c.args.until.0 c.args.end c.args.limit n c.requires.goes due early (omega (arith, less)) in
           omega (arith, lt, early))
     ] in
     reached_early c.args.proc (record { 0 = n }) c.args.self.now c.take_fast-fast.new.self (c.take_fast-fast.ensures.machine some) (ap tick_of c.processor.ensures) low
@@ -104,16 +104,16 @@ returns g c =
       | else-ahead-via-then-ahead+else-not-may_go_on x ↦
           (let past = x.if-ahead.true in
           let k = x.may_go_on.ensures.yes x.if-not-may_go_on.false in
-          let d = is_due c.args.next_event s proc until c.args.end c.args.limit n c.requires.goes due early in
-          went_fast c.args.next_event s proc until c.args.end c.args.limit n c.requires.goes due early c.take_fast-fast.new.self c.go_on.new.self
+          let d = is_due c.args.next_event.now s proc until c.args.end c.args.limit n c.requires.goes due early in
+          went_fast c.args.next_event.now s proc until c.args.end c.args.limit n c.requires.goes due early c.take_fast-fast.new.self c.go_on.new.self
           c.ticks_of.result k.0 (inr (ahead_if s proc n d k.1 (fast.stays (grind (arith, past)) some))) (fast.machine some) stepped fast.io
           c.go_on.ensures (fast.near some))
       | else-ahead-via-else-ahead x ↦
           (let less = x.if-ahead.false in
           let before : n < c.args.limit = omega (arith, less) in
-          went_fast c.args.next_event s proc until c.args.end c.args.limit n c.requires.goes due early c.take_fast-fast.new.self c.go_on.new.self
-          c.ticks_of.result (below_turn c.args.next_event s proc until c.args.end c.args.limit n c.requires.goes due early before)
-          (inl (least_now c.args.next_event s proc until c.args.end c.args.limit n c.requires.goes due early before)) (fast.machine some) stepped fast.io
+          went_fast c.args.next_event.now s proc until c.args.end c.args.limit n c.requires.goes due early c.take_fast-fast.new.self c.go_on.new.self
+          c.ticks_of.result (below_turn c.args.next_event.now s proc until c.args.end c.args.limit n c.requires.goes due early before)
+          (inl (least_now c.args.next_event.now s proc until c.args.end c.args.limit n c.requires.goes due early before)) (fast.machine some) stepped fast.io
           c.go_on.ensures (fast.near some))
     ]
 

@@ -1,8 +1,9 @@
 //! The steps of the fast path.
 
 ghost use Rattle.std.specs.Prelude.{◌≡◌, ◌↔◌, ◌<◌, ◌≤◌, ◌^◌, ◌⊎◌, false, true};
-ghost use Rattle.ds_machine.specs.NextEvents.{GoesFast, IsNextEvent, WentFast};
+ghost use Rattle.ds_machine.specs.NextEvents.{GoesFast, WentFast};
 ghost use Rattle.ds_machine.specs.Private.{IsBelowFence};
+ghost use Rattle.ds_machine.specs.Steps.{line_of};
 ghost use Rattle.ds_machine.specs.TurnLaws.{IsTurnEnd};
 ghost use Rattle.ds_machine.specs.Touching.{FetchStaysPrivate, MayBeAhead};
 
@@ -57,23 +58,15 @@ impl Parts {
         tick.0 < until.0 && self.is_below_fence(proc, tick)
     }
 
-    /// Whether a processor's step that isn't the least acting one belongs to its turn, but for what it does.
+    /// Whether a processor's step that isn't the least acting one belongs to its turn, but for what it does. Its line is down.
     #[inline(always)]
-    fn may_go_on(
-        &self,
-        next_event: NextEvent,
-        proc: Proc,
-        until: Tick,
-        end: u64,
-        tick: Tick,
-    ) -> bool
-        requires kept { IsNextEvent next_event self.now }
+    fn may_go_on(&self, proc: Proc, until: Tick, end: u64, tick: Tick) -> bool
+        requires down { line_of self.now proc ≡ false }
         requires end { 0 < end → IsTurnEnd until.0 self.now end }
         ensures no { result ≡ false → (until.0 ≤ tick.0) ⊎ (MayBeAhead tick self.now proc → ⊥) }
         ensures yes { result ≡ true → (tick.0 < until.0) × MayBeAhead tick self.now proc }
     {
         self.is_fetch_private(proc)
-            && !next_event.line(proc)
             && self.is_deaf(proc)
             && self.is_below_both(proc, until, end, tick)
     }
@@ -97,7 +90,7 @@ impl Parts {
     {
         let due = self.processor(proc).due;
         let ahead = limit <= due;
-        if ahead && !self.may_go_on(*next_event, proc, until, end, Tick(due)) {
+        if ahead && !self.may_go_on(proc, until, end, Tick(due)) {
             return Gone::Over;
         }
         let fast = self.take_fast::<R>(proc, Tick(due), false, ahead);

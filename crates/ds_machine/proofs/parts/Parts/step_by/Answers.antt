@@ -10,7 +10,10 @@ use Rattle.ds_machine.proofs.parts.Parts.step_by.Goals.{else-ahead-via-then-ahea
 use Rattle.ds_machine.proofs.parts.Parts.step_by.Goals as goal
 
 pub may_go_on-requires : goal.may_go_on-requires
-may_go_on-requires g c = record { kept = c.requires.goes.kept; end = c.requires.goes.events }
+may_go_on-requires g c = record {
+  down = sym (line_is c.args.next_event.now c.args.self.now c.requires.goes.kept c.args.proc) ∙ c.requires.goes.down;
+  end = c.requires.goes.events;
+}
 
 pub returns-then-not-may_go_on : goal.returns-then-not-may_go_on
 returns-then-not-may_go_on g c = (

@@ -80,12 +80,12 @@ abbrev pub script_from : ℕ → List KeyLine → List KeyLine
 script_from at [] = []
 script_from at (line ∷ lines) = if nat_lt line.tick.0 at then script_from at lines else line ∷ lines
 
--- The whole: the processors, of each its registers, whether it is halted, and the tick at which its next step is due, and CP15; the memories; WRAMCNT,
--- the interrupt words and the timers of both processors, the divider and the square root unit, what passes between the processors, the keys that are
--- pressed, and each KEYCNT; the DMA channels, and the four words of DMA0FILL to DMA3FILL; the display; the geometry engine with what waits for it; the
--- card. What isn't saved with it is handed in: the cartridge's file, the whole key script, and the counts of steps of ARM9, of ARM7 and of all others.
--- The geometry FIFO's bit of ARM9's IF isn't saved either: it tells that FIFO's condition, by which it is made anew. While ARM7 is halted no bit may
--- stand in its IE and IF both, and where it is late one of its channels runs.
+-- The whole: the processors, of each its registers, whether it is halted, and the tick at which its next step is due, and CP15; the memories;
+-- WRAMCNT, the interrupt words and the timers of both processors, the divider and the square root unit, what passes between the processors, the
+-- keys that are pressed, and each KEYCNT; the DMA channels, and the four words of DMA0FILL to DMA3FILL; the display; the geometry engine with
+-- what waits for it; the card. What isn't saved with it is handed in: the cartridge's file, the whole key script, and the counts of steps of
+-- ARM9, of ARM7 and of all others. The geometry FIFO's bit of ARM9's IF isn't saved either: it tells that FIFO's condition, by which it is made
+-- anew. While ARM7 is halted no bit may stand in its IE and IF both, and where it is late one of its channels runs.
 unfoldable pub machine_format : (file : List ℕ) (keys : List KeyLine) (steps_of_nine steps_of_seven events at : ℕ) → Format MachineState MachineState
 machine_format file keys steps_of_nine steps_of_seven events at = do
   registers_of_nine ← its (registers_format V5) (λ s. s.nine.processor.registers)

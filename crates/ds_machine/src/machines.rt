@@ -159,9 +159,8 @@ impl Machine {
     /// A processor takes steps of its turn with a limit, while they are of the fast path; by the first tick at which it isn't the least acting one
     /// any more, and the first at which an event acts, or 0 where that isn't known. The answer is whether its turn is over; where it isn't known to
     /// be, `belongs_by` tells it, and the next step, where it belongs to the turn, is to be taken by `step`. No unit behind the ports changes: so no
-    /// frame becomes whole, no lists are swapped, and every other actor stays due when it was. What is kept stays as it is, and is handed to each
-    /// step, so that it isn't loaded again after a store. Where the processor's interrupt line is up none is taken: the line is asked for once a
-    /// turn, since no step changes it, and a step may clear I.
+    /// frame becomes whole, no lists are swapped, and every other actor stays due when it was. What is kept stays as it is. Where the processor's
+    /// interrupt line is up none is taken: the line is asked for once a turn, since no step changes it, and a step may clear I.
     #[inline(always)]
     pub fn go_fast(&mut self, proc: Proc, until: Tick, end: u64, limit: u64) -> bool
         requires running { RunsWithSome self.old }

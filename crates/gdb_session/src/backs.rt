@@ -1,0 +1,213 @@
+//! Ways back: a piece of the past is run again, and the last thing in it that was looked for is where the way ends.
+
+use crate::decks::{Deck, Stepped};
+use crate::engines::stand;
+use crate::goals::{IRQ_MODE, Inside, Stand};
+use crate::points::Points;
+use crate::stops::{Cause, NO_MEMORY, Stop, TRAPPED, proc_of};
+use ds_base::{Proc, Tick};
+
+/// How many ticks are looked through first; then always twice as many, up to the most.
+const FIRST_TICKS: u64 = 65_536;
+
+const MOST_TICKS: u64 = 4_481_520;
+
+/// No piece of the past has as many steps, and no past as many pieces.
+const MOST_ROUNDS: u64 = 0x100_0000_0000_0000;
+
+/// Where a way back ends.
+#[derive(Clone, Copy)]
+struct Found {
+    at: u64,
+    stop: Stop,
+}
+
+/// What is looked for, and what was found last.
+#[derive(Clone, Copy)]
+struct Search {
+    /// The processor whose steps count.
+    proc: Proc,
+    /// Whether its last step is looked for, and not a point.
+    is_step: bool,
+    /// Whether steps in handlers count.
+    is_shown: bool,
+    /// Whether it is in a handler.
+    inside: Inside,
+    /// Whether it is in one whose entry lies before the piece.
+    is_early: bool,
+    /// The last step that counts, or the last point.
+    found: Option<Found>,
+    /// The last step of all.
+    any: Option<Found>,
+}
+
+impl Search {
+    /// Begins a piece of the past with nothing found.
+    fn begin(&mut self, now: Stand) {
+        self.inside = Inside::new(self.is_shown);
+        self.is_early = !self.is_shown && now.mode == IRQ_MODE;
+        self.found = None;
+        self.any = None;
+    }
+
+    /// Whether a step counts.
+    fn counts(&mut self, before: Stand, after: Stand) -> bool {
+        if self.is_early {
+            self.is_early = after.mode == IRQ_MODE;
+            return false;
+        }
+        self.inside.takes(before, after)
+    }
+
+    /// Takes a step of the processor at a tick.
+    fn takes(&mut self, before: Stand, after: Stand, at: Tick) {
+        let step = Some(Found {
+            at: at.0,
+            stop: Stop::signal(self.proc, TRAPPED),
+        });
+        self.any = step;
+        if self.counts(before, after) {
+            self.found = step;
+        }
+    }
+
+    /// Takes a point.
+    fn meets(&mut self, at: u64, stop: Stop) {
+        self.found = Some(Found { at, stop });
+    }
+
+    /// Where the way ends: where the processor stands in a handler at its beginning, that handler's steps count.
+    fn ending(&self, is_last: bool) -> Option<Found> {
+        if self.is_step && is_last && (self.is_early || self.inside.is_inside()) {
+            return self.any;
+        }
+        self.found
+    }
+}
+
+/// Looks whether a processor stands at a breakpoint at a tick.
+fn look_at<D: Deck>(deck: &D, points: &Points, search: &mut Search, proc: Proc, at: Tick) {
+    if deck.is_due(proc, at) && points.breaks_at(deck.pc(proc)) {
+        search.meets(at.0, Stop::of(proc, Cause::Break));
+    }
+}
+
+/// Takes a step in a search for points.
+fn pass_points<D: Deck>(deck: &mut D, points: &mut Points, search: &mut Search, at: Tick) -> bool {
+    look_at(deck, points, search, Proc::Nine, at);
+    look_at(deck, points, search, Proc::Seven, at);
+    let rank = deck.next().rank;
+    if deck.step() != Stepped::Taken {
+        return false;
+    }
+    if !points.has_watches() {
+        return true;
+    }
+    if let Some(place) = points.changed(deck) {
+        let proc = proc_of(rank, search.proc);
+        search.meets(at.0.saturating_add(1), Stop::of(proc, Cause::Watch(place)));
+    }
+    true
+}
+
+/// Takes a step in a search for a processor's last step.
+fn pass_step<D: Deck>(deck: &mut D, search: &mut Search, at: Tick) -> bool {
+    let before = stand(deck, search.proc);
+    let steps = deck.steps(search.proc);
+    if deck.step() != Stepped::Taken {
+        return false;
+    }
+    if deck.steps(search.proc) != steps {
+        search.takes(before, stand(deck, search.proc), at);
+    }
+    true
+}
+
+/// Looks through the past from the present tick to a later one.
+fn look_through<D: Deck>(deck: &mut D, points: &mut Points, search: &mut Search, end: u64) {
+    search.begin(stand(deck, search.proc));
+    points.look(deck);
+    for _ in 0..MOST_ROUNDS {
+        let at = deck.next().tick;
+        if at.0 >= end {
+            return;
+        }
+        let went = if search.is_step {
+            pass_step(deck, search, at)
+        } else {
+            pass_points(deck, points, search, at)
+        };
+        if !went {
+            return;
+        }
+    }
+}
+
+/// Goes where a way back ends.
+fn end_at<D: Deck>(deck: &mut D, at: u64, stop: Stop) -> Stop {
+    if deck.go_to(Tick(at)) {
+        stop
+    } else {
+        Stop::signal(stop.proc, NO_MEMORY)
+    }
+}
+
+/// Looks through one piece of the past before a tick.
+fn look_before<D: Deck>(
+    deck: &mut D,
+    points: &mut Points,
+    search: &mut Search,
+    start: u64,
+    end: u64,
+) -> bool {
+    if !deck.go_to(Tick(start)) {
+        return false;
+    }
+    look_through(deck, points, search, end);
+    true
+}
+
+/// Goes back by a search.
+fn go_back<D: Deck>(deck: &mut D, points: &mut Points, search: &mut Search) -> Stop {
+    let now = deck.now().0;
+    let mut end = now;
+    let mut ticks = FIRST_TICKS;
+    for _ in 0..MOST_ROUNDS {
+        let start = end.saturating_sub(ticks);
+        if !look_before(deck, points, search, start, end) {
+            return Stop::signal(search.proc, NO_MEMORY);
+        }
+        if let Some(found) = search.ending(end == now) {
+            return end_at(deck, found.at, found.stop);
+        }
+        if start == 0 {
+            break;
+        }
+        end = start;
+        ticks = ticks.saturating_mul(2).min(MOST_TICKS);
+    }
+    end_at(deck, 0, Stop::of(search.proc, Cause::Begin))
+}
+
+/// One step of a processor back, or back to a point, or to the beginning.
+pub fn back<D: Deck>(
+    deck: &mut D,
+    points: &mut Points,
+    proc: Proc,
+    is_step: bool,
+    is_shown: bool,
+) -> Stop {
+    if !is_step && points.is_empty() {
+        return end_at(deck, 0, Stop::of(proc, Cause::Begin));
+    }
+    let mut search = Search {
+        proc,
+        is_step,
+        is_shown,
+        inside: Inside::new(is_shown),
+        is_early: false,
+        found: None,
+        any: None,
+    };
+    go_back(deck, points, &mut search)
+}

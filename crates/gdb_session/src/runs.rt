@@ -1,0 +1,63 @@
+//! Calls of a console, each with what it needs tested first.
+
+use crate::decks::Stepped;
+use ds_base::{Keys, Tick};
+use run_ahead::{Console, Turned};
+use std::alloc::{AllocError, Global};
+
+/// The greatest tick that a run comes to, by the name of `Console::turn`.
+pub const MOST_TICK: u64 = 0x100_0000_0000_0000;
+
+/// How many frames a run makes whole at most between two looks.
+const MOST_FRAMES: u64 = 0x100_0000_0000_0000;
+
+/// A copy of a key script.
+pub fn copy_keys(alloc: Global, keys: &Keys) -> Result<Keys, AllocError> {
+    let mut copy = Keys::new(alloc);
+    for place in 0..keys.len() {
+        copy.push(keys.line(place))?;
+    }
+    Ok(copy)
+}
+
+/// Whether all steps below a console's limit are taken, so far as can be seen.
+pub fn is_over(console: &Console) -> bool {
+    console.due().tick.0 >= console.limit().0
+}
+
+/// The step of the actor that acts next, alone.
+pub fn step_console(console: &mut Console) -> Stepped {
+    let next = console.acting().tick.0;
+    if next >= MOST_TICK {
+        return Stepped::Taken;
+    }
+    match console.turn(Tick(next + 1)) {
+        Turned::Stopped(left) => Stepped::Left(left),
+        _ => Stepped::Taken,
+    }
+}
+
+/// Runs a console to a tick.
+pub fn run_console(console: &mut Console, until: Tick) -> Stepped {
+    let until = Tick(until.0.min(MOST_TICK));
+    for _ in 0..MOST_FRAMES {
+        match console.run_on(until) {
+            Turned::Stopped(left) => return Stepped::Left(left),
+            Turned::AtEnd => return Stepped::Taken,
+            _ => {}
+        }
+    }
+    Stepped::Taken
+}
+
+/// The console in bytes, where it hasn't stopped and all steps below its limit are taken.
+pub fn save_console(alloc: Global, console: &mut Console, digest: &[u8; 32]) -> Option<Vec<u8>> {
+    let at = console.limit();
+    if !is_over(console) || console.turn(at) != Turned::AtEnd {
+        return None;
+    }
+    match console.save(alloc, digest, at) {
+        Ok(bytes) => Some(bytes),
+        Err(_) => None,
+    }
+}

@@ -1,6 +1,19 @@
 //! A session of gdb with a console: where it stands in time, the ways forward and back, points, and packets to answers.
 //!
 //! Each state that gdb sees is the one at a tick: all steps below it are taken, and none at it or later. So it is the state of `nds run` to that tick.
+//! Nothing of the machine is changed but by its own steps: writes of registers and memory are refused.
+//!
+//! - `Deck` is what a session looks at and moves; `Tape` is the one of a console: it keeps a state each 500,000 steps and events, 64 at most, of
+//!   which every other one goes when there are too many. A way back takes the last state before it and runs from there.
+//! - A breakpoint stops before the instruction at its address, at the tick at which the processor's step is due. Bytes that are watched are compared
+//!   after each step; the run stops at the tick of the step that changed them, and goes back to just behind it on the way back.
+//! - A step may be answered for one processor alone. Both run all the same; what the other one met is kept, and the next run begins there.
+//! - A run is answered after a slice of ticks by SIGALRM, with which gdb goes on by itself, so that an interrupt is heard.
+//!
+//! Proved: no bytes that come in make a call fault, and each call returns. Console's calls come with what they ask for: a state is saved only where
+//! all steps below its tick are taken, and each line of a copied key script comes after the one before.
+//!
+//! Only tested, by what the program `nds_gdb` answers to a session's packets: where runs stop, and what each answer says.
 #![tactic(auto)]
 
 mod backs;

@@ -1,18 +1,29 @@
 //! Registers by gdb's numbers.
 
+ghost use Rattle.std.specs.Prelude.{◌≤◌};
+
 /// Where a register stands in the order of `Deck::registers`, by its number and a mode's: r0 to r15 of that mode.
 fn present(number: u32, mode: u32) -> u32 {
-    match (number, mode) {
-        (8..=12, 0x11) => number + 5,
-        (13, _) => stack_of(mode),
-        (14, _) => stack_of(mode) + 1,
-        (15, _) => 30,
+    match number {
+        8..=12 => second_of(number, mode),
+        13 => stack_of(mode),
+        14 => stack_of(mode) + 1,
+        15 => 30,
         _ => number,
     }
 }
 
+/// Where one of r8 to r12 of a mode stands.
+fn second_of(number: u32, mode: u32) -> u32
+    requires { number ≤ 12 }
+{
+    if mode == 0x11 { number + 5 } else { number }
+}
+
 /// Where r13 of a mode stands; r14 is the next one.
-fn stack_of(mode: u32) -> u32 {
+fn stack_of(mode: u32) -> u32
+    ensures { result ≤ 28 }
+{
     match mode {
         0x11 => 20,
         0x13 => 22,

@@ -1,7 +1,10 @@
 //! Calls of a console, each with what it needs tested first.
 
+ghost use Rattle.std.specs.Prelude.{◌<◌, ◌^◌, IsTrue};
+ghost use Rattle.ds_base.specs.KeyLines.{ComesAfter};
+
 use crate::decks::Stepped;
-use ds_base::{Keys, Tick};
+use ds_base::{KeyLine, Keys, Tick};
 use run_ahead::{Console, Turned};
 use std::alloc::{AllocError, Global};
 
@@ -11,11 +14,26 @@ pub const MOST_TICK: u64 = 0x100_0000_0000_0000;
 /// How many frames a run makes whole at most between two looks.
 const MOST_FRAMES: u64 = 0x100_0000_0000_0000;
 
+/// Whether a line may come behind the others of a script.
+fn may_follow(keys: &Keys, line: KeyLine) -> bool
+    ensures rises { IsTrue result → ComesAfter keys.now line }
+    ensures twelve { IsTrue result → line.pressed < 2 ^ 12 }
+{
+    if line.pressed >= 0x1000 {
+        return false;
+    }
+    let count = keys.len();
+    count == 0 || keys.line(count - 1).tick.0 < line.tick.0
+}
+
 /// A copy of a key script.
 pub fn copy_keys(alloc: Global, keys: &Keys) -> Result<Keys, AllocError> {
     let mut copy = Keys::new(alloc);
     for place in 0..keys.len() {
-        copy.push(keys.line(place))?;
+        let line = keys.line(place);
+        if may_follow(&copy, line) {
+            copy.push(line)?;
+        }
     }
     Ok(copy)
 }
@@ -53,11 +71,11 @@ pub fn run_console(console: &mut Console, until: Tick) -> Stepped {
 /// The console in bytes, where it hasn't stopped and all steps below its limit are taken.
 pub fn save_console(alloc: Global, console: &mut Console, digest: &[u8; 32]) -> Option<Vec<u8>> {
     let at = console.limit();
-    if !is_over(console) || console.turn(at) != Turned::AtEnd {
+    if !is_over(console) {
         return None;
     }
-    match console.save(alloc, digest, at) {
-        Ok(bytes) => Some(bytes),
-        Err(_) => None,
+    match console.turn(at) {
+        Turned::AtEnd => console.save(alloc, digest, at).ok(),
+        _ => None,
     }
 }

@@ -1,5 +1,7 @@
 //! The console with its past.
 
+ghost use Rattle.std.specs.Prelude.{◌<◌};
+
 use crate::decks::{Deck, Stepped};
 use crate::runs::{copy_keys, is_over, run_console, save_console, step_console};
 use crate::saves::Saves;
@@ -158,7 +160,9 @@ impl Deck for Tape {
 }
 
 /// A processor's rank among the actors.
-fn rank(proc: Proc) -> u8 {
+fn rank(proc: Proc) -> u8
+    ensures { result < 24 }
+{
     match proc {
         Proc::Nine => 22,
         Proc::Seven => 23,

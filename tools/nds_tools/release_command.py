@@ -1,21 +1,23 @@
 """make-release: makes an archive of the built program, the tools, the documents and the examples, for authors without the toolchain.
 
-    tools/make-release [-o FILE.tar.gz] [--program PATH]
+    tools/make-release [-o FILE.tar.gz] [--program PATH] [--gdb PATH]
 
   -o FILE         where it goes; left out, nds-VERSION.tar.gz of the commit that has the tag vVERSION, and nds-VERSION-COMMIT.tar.gz of
                   another. Beside it comes FILE.sha256, which `sha256sum -c` reads
   --program PATH  a program that ./nds built of these sources elsewhere, with PATH.proved beside it, as ./nds writes out/nds.proved; left
                   out, the one that ./nds builds here
+  --gdb PATH      the same of the program for gdb, which ./nds-gdb built elsewhere; left out, the one that it built here. That one is packed
+                  where somebody tells that it was proved of these sources, and left out with its wrapper where nobody does
 
 What a program was proved of is told by the file that ./nds wrote when it had proved and built it. A program without one, or with one that
 tells of another program or of other sources, is refused.
 
 The archive holds one folder, of the archive's name: the wrapper `nds`, which runs out/nds there, and beside that out/nds.proved, the sums of
-the program and of the sources, the version, the commit and the toolchain that proved it, which `./nds --version` tells; tools/, docs/,
-examples/ with the states that their tests begin from, the README, the changelog, the licences; and SHA256SUMS of all of it. A link of a page
+the program and of the sources, the version, the commit and the toolchain that proved it, which `./nds --version` tells; the same of
+`nds-gdb`; tools/, docs/, examples/ with the states that their tests begin from, the README, the changelog, the licences; and SHA256SUMS of all of it. A link of a page
 to what isn't packed is its text alone there. The same commit and program make the same archive, byte for byte, by one version of Python.
-What is packed has to be committed. Before it is handed out the archive is unpacked and tried: its program assembles a listing, and the
-examples' tests pass.
+What is packed has to be committed. Before it is handed out the archive is unpacked and tried: its program assembles a listing, that for gdb
+takes a cartridge, and the examples' tests pass.
 
 Ends with 0; with 1 where something isn't committed, where nobody tells what the program was proved of, or the archive doesn't work; and with
 2 where it can't be made."""
@@ -30,7 +32,7 @@ import sys
 import tarfile
 import tempfile
 from dataclasses import dataclass
-from typing import Callable, Dict, Iterator, List
+from typing import Callable, Dict, Iterator, List, Optional
 
 from nds_tools.links import with_live_links
 from nds_tools.progress import Progress
@@ -38,14 +40,15 @@ from nds_tools.program import PROGRAM, TOP, finished, ready
 from nds_tools.words import GOOD, Refused, Untold, Words, bytes_of
 
 TOOL = "make-release"
-USAGE = "tools/make-release [-o FILE.tar.gz] [--program PATH]"
-PACKED = ("README.md", "CHANGELOG.md", "LICENSE-MIT", "LICENSE-APACHE", "nds", "docs", "examples", "tools")
+USAGE = "tools/make-release [-o FILE.tar.gz] [--program PATH] [--gdb PATH]"
+PACKED = ("README.md", "CHANGELOG.md", "LICENSE-MIT", "LICENSE-APACHE", "nds", "nds-gdb", "docs", "examples", "tools")
 # What of these serves the repository alone.
 LEFT_OUT = ("docs/bench/", "tools/tests/", "tools/hostile", "tools/definitions", "tools/statement-size", "tools/loop-in-line",
             "tools/make-release", "tools/nds_tools/hostile", "tools/nds_tools/release_command.py", "tools/nds_tools/spec_names.py",
             "tools/nds_tools/lemma_names.py", "tools/nds_tools/statement.py", "tools/nds_tools/links.py")  # fmt: skip
 SOURCES = ("crates", "crates.txt")
 LISTING = os.path.join("examples", "loop.arm9.txt")
+CART = os.path.join("examples", "loop.nds")
 FROM = re.compile(rb"^\s*from\s", re.M)
 VERSION = re.compile(r"^version=(\S+)$", re.M)
 SECONDS = 600.0
@@ -102,8 +105,8 @@ def name_of(number: str) -> str:
     return f"nds-{number}" if is_tagged else f"nds-{number}-{git('log', '-1', '--format=%h').strip()}"
 
 
-def proved_of(path: str, program: bytes, number: str) -> str:
-    """Returns what the program was proved of, by the file beside it; refuses one of another program or of other sources."""
+def proved_of(path: str, program: bytes, number: str, wrapper: str = "nds") -> str:
+    """Returns what the wrapper's program was proved of, by the file beside it; refuses one of another program or of other sources."""
     told: Dict[str, str] = {}
     if os.path.exists(f"{path}.proved"):
         with open(f"{path}.proved", encoding="utf-8") as it:
@@ -111,11 +114,30 @@ def proved_of(path: str, program: bytes, number: str) -> str:
     sum_of = hashlib.sha256(program).hexdigest()
     if told.get("program") != sum_of or not told.get("kit"):
         beside = "of another program" if told else "not there"
-        raise Refused(f"nobody tells that {path} was proved: {path}.proved, which ./nds writes when it has proved and built it, is {beside}")
-    sources = subprocess.run([os.path.join(TOP, "nds"), "--sources"], capture_output=True, text=True).stdout.strip()
+        raise Refused(f"nobody tells that {path} was proved: {path}.proved, which ./{wrapper} writes when it has proved and built it, is {beside}")
+    sources = subprocess.run([os.path.join(TOP, wrapper), "--sources"], capture_output=True, text=True).stdout.strip()
     if not sources or told.get("sources") != sources:
         raise Refused(f"{path} was proved of other sources than those that are here")
     return f"program {sum_of}\nversion {number}\nsources {sources}\ncommit {git('rev-parse', 'HEAD').strip()}\nkit {told['kit']}\n"
+
+
+def for_gdb(named: Optional[str], number: str) -> Dict[str, File]:
+    """Returns the program for gdb and what it was proved of, by their names in the archive; nothing where none was built and named."""
+    path = named or os.path.join(TOP, "out", "nds-gdb")
+    if not named and not os.path.exists(path):
+        return {}
+    program = bytes_of(path)
+    if UNPROVED in program:
+        raise Refused(f"{path} was compiled with checks and before any proof, as ./nds-gdb --unproved has it: no release is made of that")
+    try:
+        proved = proved_of(path, program, number, "nds-gdb")
+    except Refused:
+        if named:
+            raise
+        return {}
+    if finished(os.path.abspath(path), SECONDS, os.path.join(TOP, CART), "none")[0]:
+        raise Untold(f"{path} doesn't take {CART}, so it isn't the program nds-gdb")
+    return {"out/nds-gdb": File(program, True), "out/nds-gdb.proved": File(proved.encode())}
 
 
 def with_links(files: Dict[str, File]) -> Dict[str, File]:
@@ -180,6 +202,10 @@ def tried(content: bytes, folder: str, number: str, is_tested: bool) -> str:
         version_said, listing = (run_in(top, "./nds", *it) for it in (["--version"], ["asm", LISTING]))
         if not version_said.stdout.startswith(f"nds {number}, proved\n".encode()) or listing.returncode or not listing.stdout:
             raise Refused(f"the archive's program doesn't run: {(version_said.stderr or listing.stderr).decode('utf-8', 'replace').strip()}")
+        if os.path.exists(os.path.join(top, "nds-gdb")):
+            version_said, heard = (run_in(top, "./nds-gdb", *it) for it in (["--version"], [CART, "none"]))
+            if not version_said.stdout.startswith(f"nds-gdb {number}, proved\n".encode()) or heard.returncode:
+                raise Refused(f"the archive's program for gdb doesn't run: {(version_said.stderr or heard.stderr).decode('utf-8', 'replace').strip()}")
         if not is_tested:
             return "no tests"
         ran = run_in(top, sys.executable, os.path.join("tools", "nds-test"), "examples")
@@ -216,6 +242,7 @@ def main() -> int:
     words = Words(TOOL, USAGE, __doc__ or "")
     words.add_argument("-o", dest="out")
     words.add_argument("--program")
+    words.add_argument("--gdb")
     given = words.read()
     files = tracked()
     time, number = int(git("log", "-1", "--format=%ct")), version()
@@ -224,6 +251,9 @@ def main() -> int:
     program = program_of(path)
     files["out/nds"] = File(program, True)
     files["out/nds.proved"] = File(proved_of(path, program, number).encode())
+    of_gdb = for_gdb(given.gdb, number)
+    files.update(of_gdb)
+    lacks_gdb = not of_gdb and bool(files.pop("nds-gdb", None))
     files = with_links(files)
     tests = tests_of(files)
     from_states = [it for it in tests if FROM.search(files[it].content)]
@@ -242,4 +272,6 @@ def main() -> int:
         it.write(f"{hashlib.sha256(content).hexdigest()}  {os.path.basename(out)}\n")
     print(f"{out}: {len(files)} files, {len(content):,} bytes; tried: {said}")
     print(files["out/nds.proved"].content.decode(), end="")
+    if lacks_gdb:
+        print("without nds-gdb: nobody tells of a program for gdb that it was proved of these sources")
     return GOOD

@@ -114,6 +114,37 @@ class MakeRelease(Small):
         self.assertEqual(ran[1].splitlines()[1:], [
             f"program {sum_of}", f"version {VERSION}", f"sources {sources}", f"commit {self.commit_of('%H')}", "kit rattle-kit-0 logic 0"])  # fmt: skip
 
+    def test_the_program_for_gdb_is_packed_where_it_was_proved(self):
+        lacks = "without nds-gdb: nobody tells of a program for gdb that it was proved of these sources"
+        shutil.copy(f"{TOP}/nds-gdb", f"{self.top}/nds-gdb")
+        self.write(f"{self.top}/crates.txt", "nds: low\nlow:\nnds_gdb: low\n")
+        self.write(f"{self.top}/crates/nds_gdb/src/main.rt", "// for gdb\n")
+        self.write(f"{self.top}/examples/loop.nds", "a cartridge\n")
+        self.commit()
+        folder = f"nds-{VERSION}-{self.commit_of('%h')}"
+        status, out, _ = self.make("-o", "a.tgz")
+        self.assertEqual((status, out.splitlines()[-1]), (0, lacks))
+        self.assertEqual([it for it in os.listdir(self.unpacked("a.tgz", folder)) if "gdb" in it], [])
+        self.write(f"{self.top}/out/nds-gdb", '#!/bin/sh\n[ "$2" = none ] && grep -q cartridge "$1"\n', 0o755)
+        sources = subprocess.run([f"{self.top}/nds-gdb", "--sources"], env=self.environment(), capture_output=True, text=True).stdout.strip()
+        told = f"sources {sources}\nkit rattle-kit-0 logic 0\n"
+        for proved, is_told in (("", False), (f"program {64 * '0'}\n{told}", False)):
+            self.write(f"{self.top}/out/nds-gdb.proved", proved)
+            self.assertEqual(self.make("-o", "a.tgz")[1].splitlines()[-1] != lacks, is_told)
+        proved = f"program {hashlib.sha256(open_bytes(f'{self.top}/out/nds-gdb')).hexdigest()}\n{told}"
+        self.write(f"{self.top}/out/nds-gdb.proved", proved)
+        status, out, notes = self.make("-o", "a.tgz")
+        self.assertEqual((status, out.count("without")), (0, 0), notes)
+        shutil.rmtree(f"{self.room}/there")
+        top = self.unpacked("a.tgz", folder)
+        ran = subprocess.run([f"{top}/nds-gdb", "--version"], env=self.environment(False), capture_output=True, text=True)
+        self.assertEqual(ran.stdout.splitlines()[:2], [f"nds-gdb {VERSION}, proved", f"sources  {sources}"])
+        for path, content, said in (("unproved", "AddressSanitizer", "compiled with checks and before any proof"), ("own", "x", "nobody tells that own was proved")):
+            self.write(f"{self.room}/{path}", f"#!/bin/sh\n# {content}\n", 0o755)
+            ran = self.make("--gdb", path)
+            self.assertEqual(ran[0], 1)
+            self.assertIn(said, ran[2])
+
     def test_what_is_refused(self):
         self.write(f"{self.room}/wrong", "#!/bin/sh\nexit 3\n", 0o755)
         self.write(f"{self.room}/text", "text\n", 0o755)

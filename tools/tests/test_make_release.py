@@ -139,6 +139,7 @@ class MakeRelease(Small):
         top = self.unpacked("a.tgz", folder)
         ran = subprocess.run([f"{top}/nds-gdb", "--version"], env=self.environment(False), capture_output=True, text=True)
         self.assertEqual(ran.stdout.splitlines()[:2], [f"nds-gdb {VERSION}, proved", f"sources  {sources}"])
+        self.assertTrue(os.access(f"{top}/tools/nds-gdb-rom.py", os.R_OK))
         for path, content, said in (("unproved", "AddressSanitizer", "compiled with checks and before any proof"), ("own", "x", "nobody tells that own was proved")):
             self.write(f"{self.room}/{path}", f"#!/bin/sh\n# {content}\n", 0o755)
             ran = self.make("--gdb", path)

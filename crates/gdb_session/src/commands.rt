@@ -22,7 +22,8 @@ const FIRST_FRAME: u64 = 817_922;
 /// The greatest tick that a run is told to stop at.
 const MOST_UNTIL: u64 = 0x100_0000_0000_0000;
 
-const HELP: &[u8] = b"tick, until TICK, until-frame N, slice TICKS, irq skip|show, saves, state FILE, frame FILE, help\n";
+const HELP: &[u8] =
+    b"tick, until TICK, until-frame N, slice TICKS, irq skip|show, saves, state FILE, frame FILE, help\n";
 
 /// The value of a hexadecimal digit.
 fn digit_of(byte: u8) -> Option<u8> {

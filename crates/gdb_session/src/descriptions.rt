@@ -29,10 +29,19 @@ const BANKED: [&[u8]; 21] = [
 ];
 
 /// The registers of the present mode but the first thirteen.
-const LAST: &[u8] = b"<reg name=\"sp\" bitsize=\"32\" type=\"data_ptr\"/><reg name=\"lr\" bitsize=\"32\"/><reg name=\"pc\" bitsize=\"32\" type=\"code_ptr\"/><reg name=\"cpsr\" bitsize=\"32\" regnum=\"25\"/>";
+const LAST: [&[u8]; 4] = [
+    b"<reg name=\"sp\" bitsize=\"32\" type=\"data_ptr\"/>",
+    b"<reg name=\"lr\" bitsize=\"32\"/>",
+    b"<reg name=\"pc\" bitsize=\"32\" type=\"code_ptr\"/>",
+    b"<reg name=\"cpsr\" bitsize=\"32\" regnum=\"25\"/>",
+];
 
 /// What stands before them.
-const HEAD: &[u8] = b"<?xml version=\"1.0\"?><!DOCTYPE target SYSTEM \"gdb-target.dtd\"><target version=\"1.0\"><architecture>armv5te</architecture><feature name=\"org.gnu.gdb.arm.core\">";
+const HEAD: [&[u8]; 3] = [
+    b"<?xml version=\"1.0\"?><!DOCTYPE target SYSTEM \"gdb-target.dtd\">",
+    b"<target version=\"1.0\"><architecture>armv5te</architecture>",
+    b"<feature name=\"org.gnu.gdb.arm.core\">",
+];
 
 /// Puts the thirteen first registers.
 fn put_first(into: &mut Answer) -> Result<(), AllocError> {
@@ -53,12 +62,20 @@ fn put_banked(into: &mut Answer, name: &[u8], number: u64) -> Result<(), AllocEr
     into.put(b"\" group=\"banked\" save-restore=\"no\"/>")
 }
 
-/// Puts the description of both processors' registers: those of the present mode, and the banked ones in a group of their own. (The GDB manual, "Target
-/// Descriptions", "ARM Features".)
+/// Puts texts, one behind the other.
+fn put_all(into: &mut Answer, texts: &[&[u8]]) -> Result<(), AllocError> {
+    for text in texts {
+        into.put(text)?;
+    }
+    Ok(())
+}
+
+/// Puts the description of both processors' registers: those of the present mode, and the banked ones in a group of their own. (The GDB manual,
+/// "Target Descriptions", "ARM Features".)
 pub fn put_target(into: &mut Answer) -> Result<(), AllocError> {
-    into.put(HEAD)?;
+    put_all(into, &HEAD)?;
     put_first(into)?;
-    into.put(LAST)?;
+    put_all(into, &LAST)?;
     into.put(b"</feature><feature name=\"nds.banked\">")?;
     for place in 0..21usize {
         put_banked(into, BANKED[place], place as u64 + 26)?;

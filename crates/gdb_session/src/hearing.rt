@@ -85,7 +85,11 @@ impl Line {
 
     /// Puts a sign, where there are any.
     fn put_sign(&self, out: &mut Answer, sign: &[u8]) -> Result<(), AllocError> {
-        if self.has_signs { out.put(sign) } else { Ok(()) }
+        if self.has_signs {
+            out.put(sign)
+        } else {
+            Ok(())
+        }
     }
 
     /// Answers the packet that was heard.

@@ -1,6 +1,7 @@
 //! A session of gdb with a console: where it stands in time, the ways forward and back, points, and packets to answers.
 //!
-//! Each state that gdb sees is the one at a tick: all steps below it are taken, and none at it or later. So it is the state of `nds run` to that tick.
+//! Each state that gdb sees is the one at a tick: all steps below it are taken, and none at it or later. So it is the state of `nds run` to that
+//! tick.
 //! Nothing of the machine is changed but by its own steps: writes of registers and memory are refused.
 //!
 //! - `Deck` is what a session looks at and moves; `Tape` is the one of a console: it keeps a state each 500,000 steps and events, 64 at most, of

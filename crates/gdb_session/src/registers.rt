@@ -64,9 +64,5 @@ fn place_of(number: u32, cpsr: u32) -> Option<u32> {
 /// A register by gdb's number, of all of them.
 pub fn register(all: &[u32; 37], number: u32) -> Option<u32> {
     let place = place_of(number, all[31])? as usize;
-    if place < 37 {
-        Some(all[place])
-    } else {
-        None
-    }
+    if place < 37 { Some(all[place]) } else { None }
 }

@@ -117,11 +117,7 @@ pub fn put_note(into: &mut Answer, stop: Stop) -> Result<(), AllocError> {
 }
 
 /// Puts all registers of the processor that is looked at, by gdb's numbers.
-pub fn put_registers<D: Deck>(
-    into: &mut Answer,
-    deck: &D,
-    proc: Proc,
-) -> Result<(), AllocError> {
+pub fn put_registers<D: Deck>(into: &mut Answer, deck: &D, proc: Proc) -> Result<(), AllocError> {
     let all = deck.registers(proc);
     for number in 0..47u32 {
         if number < 16 || number > 24 {
@@ -185,7 +181,11 @@ pub fn put_text<D: Deck>(into: &mut Answer, deck: &D, proc: Proc) -> Result<(), 
 fn put_from(into: &mut Answer, text: &[u8], offset: u32, length: u32) -> Result<(), AllocError> {
     let start = (offset as usize).min(text.len());
     let count = (length as usize).min(text.len() - start);
-    let letter: &[u8] = if start + count < text.len() { b"m" } else { b"l" };
+    let letter: &[u8] = if start + count < text.len() {
+        b"m"
+    } else {
+        b"l"
+    };
     into.put(letter)?;
     into.put(&text[start..start + count])
 }

@@ -11,19 +11,21 @@ use gdb_packets::{Answer, Point, Request};
 use std::alloc::{AllocError, Global};
 
 /// What gdb is told of this side.
-const FEATURES: &[u8] = b"PacketSize=8000;QStartNoAckMode+;vContSupported+;swbreak+;ReverseStep+;ReverseContinue+;qXfer:features:read+";
+const FEATURES: &[u8] =
+    b"PacketSize=8000;QStartNoAckMode+;vContSupported+;swbreak+;ReverseStep+;ReverseContinue+;qXfer:features:read+";
 
 /// The answer to a request that asks nothing of the machine, nor changes it; None where it does.
 fn fixed(request: Request) -> Option<&'static [u8]> {
     match request {
         Request::Supported => Some(FEATURES),
-        Request::NoAck | Request::Alive | Request::Symbols | Request::Detach => Some(b"OK"),
+        Request::NoAck | Request::Alive | Request::Symbols => Some(b"OK"),
+        Request::Detach | Request::Kill => Some(b"OK"),
         Request::FirstThreads => Some(b"m1,2"),
         Request::MoreThreads => Some(b"l"),
         Request::Actions => Some(b"vCont;c;C;s;S;r"),
         Request::Attached => Some(b"1"),
         Request::Change | Request::Wrong => Some(b"E01"),
-        Request::Kill | Request::Unknown => Some(b""),
+        Request::Unknown => Some(b""),
         _ => None,
     }
 }
@@ -45,11 +47,7 @@ fn remove(session: &mut Session, into: &mut Answer, point: Point) -> Result<(), 
 }
 
 /// A request that changes the session alone; false where it isn't one.
-fn choose(
-    session: &mut Session,
-    into: &mut Answer,
-    request: Request,
-) -> Result<bool, AllocError> {
+fn choose(session: &mut Session, into: &mut Answer, request: Request) -> Result<bool, AllocError> {
     match request {
         Request::Look(proc) => {
             session.choose_look(proc);

@@ -16,7 +16,6 @@ const SLICE_TICKS: u64 = 8_000_000;
 /// How many ticks a step may take: a second.
 const STEP_TICKS: u64 = 67_027_964;
 
-
 /// A session.
 #[derive(Drop)]
 pub struct Session {
@@ -146,9 +145,7 @@ fn go_to_meeting<D: Deck>(session: &mut Session, deck: &mut D, met: Met) -> Stop
     if !deck.go_to(Tick(met.at)) {
         return Stop::signal(met.stop.proc, crate::stops::NO_MEMORY);
     }
-    session
-        .told
-        .tell(met.stop.proc, deck.steps(met.stop.proc));
+    session.told.tell(met.stop.proc, deck.steps(met.stop.proc));
     met.stop
 }
 
@@ -197,7 +194,6 @@ fn stop_of<D: Deck>(session: &mut Session, deck: &mut D, going: Going) -> Stop {
     run_from_here(session, deck, going)
 }
 
-
 /// Goes on, as a packet asks for.
 pub fn go_on<D: Deck>(session: &mut Session, deck: &mut D, going: Going) {
     if session.is_interrupted {
@@ -216,13 +212,7 @@ pub fn go_on<D: Deck>(session: &mut Session, deck: &mut D, going: Going) {
 /// Goes back: one step, or to a point or the beginning.
 pub fn go_back<D: Deck>(session: &mut Session, deck: &mut D, is_step: bool) {
     let proc = session.aimed_at();
-    let stop = back(
-        deck,
-        &mut session.points,
-        proc,
-        is_step,
-        session.shows_irq,
-    );
+    let stop = back(deck, &mut session.points, proc, is_step, session.shows_irq);
     session.met = None;
     session.told = Told::nothing();
     session.stand(stop);

@@ -1,7 +1,8 @@
 //! The program: gdb's remote protocol on standard input and output, over a console with a cartridge and a key script.
 //!
-//! It is trusted, and has no contract of its own, so no wrong bodies. It ends with status 0 when gdb goes or its input ends, and as `nds` does where a
-//! file can't be read or isn't accepted; with 12 for want of memory, 5 where its output can't be written, 13 where the system can't give the words.
+//! It is trusted, and has no contract of its own, so no wrong bodies. It ends with status 0 when gdb goes or its input ends, and as `nds` does where
+//! a file can't be read or isn't accepted; with 12 for want of memory, 5 where its output can't be written, 13 where the system can't give the
+//! words.
 #![tactic(auto)]
 
 use ds_io::{DiskShelf, Sink, StdSink, put_all};
@@ -76,7 +77,12 @@ fn talk<D: Deck, F: Outlet, I: Read, O: Sink>(
 }
 
 /// The console of a cartridge and a key script.
-fn tape_of<'a, R: Files>(rt: &R, alloc: Global, cart: &'a str, keys: &'a str) -> Result<Tape, Ended<'a>> {
+fn tape_of<'a, R: Files>(
+    rt: &R,
+    alloc: Global,
+    cart: &'a str,
+    keys: &'a str,
+) -> Result<Tape, Ended<'a>> {
     let mut shelf = DiskShelf::new(rt);
     let script = if keys == "none" { None } else { Some(keys) };
     let (file, lines) = load_run(alloc, &mut shelf, cart, script)?;

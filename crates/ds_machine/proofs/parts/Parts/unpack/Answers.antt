@@ -1,8 +1,12 @@
 use Rattle.ds_machine.proofs.Words.{◌∙◌, Ok, slice_index, ap, sym, MachineState}
+use Rattle.ds_machine.proofs.SavedParts.{machine_reads}
 use Rattle.ds_machine.proofs.parts.Parts.unpack.Goals as goal
 
 pub returns : goal.returns
 returns c =
-    let steps = c.args.steps in
-    let read = c.in_ok-taken.ensures c.args.keys (slice_index steps 0) (slice_index steps 1) (slice_index steps 2) in
-    rw (← c.bytes.ensures.bytes) (read ∙ ap (λ (s : MachineState). Ok (s, c.take.new.from)) (sym (c.in_ok-parts.ensures c.bytes.result.now)))
+    let nine = slice_index c.args.steps 0 in
+    let seven = slice_index c.args.steps 1 in
+    let events = slice_index c.args.steps 2 in
+    let parts = machine_reads c.bytes.result.now c.args.keys nine seven events c.args.at.0 c.args.from.now in
+    let read = c.in_ok-taken.ensures c.args.keys nine seven events in
+    rw (← c.bytes.ensures.bytes) (parts ∙ (read ∙ ap (λ (s : MachineState). Ok (s, c.take.new.from)) (sym (c.in_ok-parts.ensures c.bytes.result.now))))

@@ -313,7 +313,7 @@ fn wrong_of_asked(
     let gx = so_many(alloc, *selector, *count)?;
     let (at, byte, long, tick, wanted) = *row;
     let wanted = if wanted == 1 {
-        5 * *count + 4676
+        count.saturating_mul(5).saturating_add(4676)
     } else {
         wanted
     };

@@ -5,7 +5,7 @@ use crate::engines::stand;
 use crate::goals::{IRQ_MODE, Inside, Stand};
 use crate::points::Points;
 use crate::stops::{Cause, NO_MEMORY, Stop, TRAPPED, proc_of};
-use ds_base::{Proc, Tick};
+use ds_base::{Due, Proc, Tick};
 
 /// How many ticks are looked through first; then always twice as many, up to the most.
 const FIRST_TICKS: u64 = 65_536;
@@ -87,25 +87,27 @@ impl Search {
 
 /// Looks whether a processor stands at a breakpoint at a tick.
 fn look_at<D: Deck>(deck: &D, points: &Points, search: &mut Search, proc: Proc, at: Tick) {
-    if deck.is_due(proc, at) && points.breaks_at(deck.pc(proc)) {
+    if points.breaks_at(deck.pc(proc)) && deck.is_due(proc, at) {
         search.meets(at.0, Stop::of(proc, Cause::Break));
     }
 }
 
 /// Takes a step in a search for points.
-fn pass_points<D: Deck>(deck: &mut D, points: &mut Points, search: &mut Search, at: Tick) -> bool {
-    look_at(deck, points, search, Proc::Nine, at);
-    look_at(deck, points, search, Proc::Seven, at);
-    let rank = deck.next().rank;
-    if deck.step() != Stepped::Taken {
+fn pass_points<D: Deck>(deck: &mut D, points: &mut Points, search: &mut Search, next: Due) -> bool {
+    look_at(deck, points, search, Proc::Nine, next.tick);
+    look_at(deck, points, search, Proc::Seven, next.tick);
+    if deck.step(next.tick) != Stepped::Taken {
         return false;
     }
     if !points.has_watches() {
         return true;
     }
     if let Some(place) = points.changed(deck) {
-        let proc = proc_of(rank, search.proc);
-        search.meets(at.0.saturating_add(1), Stop::of(proc, Cause::Watch(place)));
+        let proc = proc_of(next.rank, search.proc);
+        search.meets(
+            next.tick.0.saturating_add(1),
+            Stop::of(proc, Cause::Watch(place)),
+        );
     }
     true
 }
@@ -114,7 +116,7 @@ fn pass_points<D: Deck>(deck: &mut D, points: &mut Points, search: &mut Search, 
 fn pass_step<D: Deck>(deck: &mut D, search: &mut Search, at: Tick) -> bool {
     let before = stand(deck, search.proc);
     let steps = deck.steps(search.proc);
-    if deck.step() != Stepped::Taken {
+    if deck.step(at) != Stepped::Taken {
         return false;
     }
     if deck.steps(search.proc) != steps {
@@ -128,14 +130,14 @@ fn look_through<D: Deck>(deck: &mut D, points: &mut Points, search: &mut Search,
     search.begin(stand(deck, search.proc));
     points.look(deck);
     for _ in 0..MOST_ROUNDS {
-        let at = deck.next().tick;
-        if at.0 >= end {
+        let next = deck.next();
+        if next.tick.0 >= end {
             return;
         }
         let went = if search.is_step {
-            pass_step(deck, search, at)
+            pass_step(deck, search, next.tick)
         } else {
-            pass_points(deck, points, search, at)
+            pass_points(deck, points, search, next)
         };
         if !went {
             return;

@@ -47,8 +47,8 @@ pub trait Deck {
     /// What a processor would read at an address.
     fn looked(&self, proc: Proc, at: u32, width: Width) -> Option<u32>;
 
-    /// The step of the actor that acts next. Where it is left out, the deck has to go back before it goes on.
-    fn step(&mut self) -> Stepped;
+    /// The step of the actor that acts next, at its tick, which is told. Where it is left out, the deck has to go back before it goes on.
+    fn step(&mut self, at: Tick) -> Stepped;
 
     /// Goes on to a tick, which is its place in time then; or comes to a step that needs what is left out.
     fn run_to(&mut self, until: Tick) -> Stepped;

@@ -4,7 +4,7 @@ use crate::decks::{Deck, Stepped};
 use crate::goals::{Aim, Inside, Stand, is_met};
 use crate::points::Points;
 use crate::stops::{Cause, NO_MEMORY, Stop, TRAPPED, proc_of};
-use ds_base::{LeftOut, Proc, Tick};
+use ds_base::{Due, LeftOut, Proc, Tick};
 
 /// How many steps are taken between two looks whether a state is to be kept.
 const CHUNK_STEPS: u32 = 65_536;
@@ -121,16 +121,15 @@ pub fn stand<D: Deck>(deck: &D, proc: Proc) -> Stand {
     Stand::of(deck.pc(proc), deck.cpsr(proc))
 }
 
-/// Whether a processor stands at a breakpoint at a tick, of which it wasn't told.
+/// Whether a processor stands at a breakpoint at a tick, of which it wasn't told. (Its address is asked first, since that is read at once.)
 fn stands_at_break<D: Deck>(deck: &D, points: &Points, run: &Run, proc: Proc, at: Tick) -> bool {
-    if !deck.is_due(proc, at) || run.told.is_told(proc, deck.steps(proc)) {
-        return false;
-    }
     let pc = deck.pc(proc);
-    if run.is_alone && proc != run.proc {
-        return points.broke_at(pc);
-    }
-    points.breaks_at(pc)
+    let is_point = if run.is_alone && proc != run.proc {
+        points.broke_at(pc)
+    } else {
+        points.breaks_at(pc)
+    };
+    is_point && deck.is_due(proc, at) && !run.told.is_told(proc, deck.steps(proc))
 }
 
 /// Looks whether a processor stands at a breakpoint.
@@ -188,26 +187,36 @@ fn stop_at<D: Deck>(deck: &mut D, at: Tick, stop: Stop) -> Stop {
     }
 }
 
-/// Takes the step of the next actor, which is due at a tick.
-fn take<D: Deck>(deck: &mut D, points: &mut Points, run: &mut Run, at: Tick) -> Option<Stop> {
-    let rank = deck.next().rank;
-    let before = stand(deck, run.proc);
-    let steps = deck.steps(run.proc);
-    if let Stepped::Left(left) = deck.step() {
+/// Takes the step of the next actor. Where the run is to go on and on nobody asks which processor took it.
+fn take<D: Deck>(deck: &mut D, points: &mut Points, run: &mut Run, next: Due) -> Option<Stop> {
+    let stepped = if run.aim == Aim::On {
+        deck.step(next.tick)
+    } else {
+        take_counted(deck, run, next.tick)
+    };
+    if let Stepped::Left(left) = stepped {
         return Some(stop_at(deck, left.tick, left_stop(left, run.proc, run.is_alone)));
-    }
-    if deck.steps(run.proc) != steps {
-        run.takes(before, stand(deck, run.proc), at);
     }
     if !points.has_watches() {
         return None;
     }
     let place = points.changed(deck)?;
-    let stop = watch_stop(rank, place, run.proc);
-    if run.meets(stop, place, at) {
-        return Some(stop_at(deck, at, stop));
+    let stop = watch_stop(next.rank, place, run.proc);
+    if run.meets(stop, place, next.tick) {
+        return Some(stop_at(deck, next.tick, stop));
     }
     None
+}
+
+/// Takes a step of a run that ends with one of its processor's.
+fn take_counted<D: Deck>(deck: &mut D, run: &mut Run, at: Tick) -> Stepped {
+    let before = stand(deck, run.proc);
+    let steps = deck.steps(run.proc);
+    let stepped = deck.step(at);
+    if stepped == Stepped::Taken && deck.steps(run.proc) != steps {
+        run.takes(before, stand(deck, run.proc), at);
+    }
+    stepped
 }
 
 /// The end of a run in any case.
@@ -220,14 +229,14 @@ fn arrive<D: Deck>(deck: &mut D, run: &Run) -> Stop {
 
 /// One step of a run, or its stop.
 fn go_step<D: Deck>(deck: &mut D, points: &mut Points, run: &mut Run) -> Gone {
-    let at = deck.next().tick;
-    if at.0 >= run.end {
+    let next = deck.next();
+    if next.tick.0 >= run.end {
         return Gone::Stop(arrive(deck, run));
     }
-    if let Some(stop) = look(deck, points, run, at) {
-        return Gone::Stop(stop_at(deck, at, stop));
+    if let Some(stop) = look(deck, points, run, next.tick) {
+        return Gone::Stop(stop_at(deck, next.tick, stop));
     }
-    match take(deck, points, run, at) {
+    match take(deck, points, run, next) {
         Some(stop) => Gone::Stop(stop),
         None => Gone::On,
     }

@@ -43,13 +43,12 @@ pub fn is_over(console: &Console) -> bool {
     console.due().tick.0 >= console.limit().0
 }
 
-/// The step of the actor that acts next, alone.
-pub fn step_console(console: &mut Console) -> Stepped {
-    let next = console.acting().tick.0;
-    if next >= MOST_TICK {
+/// The step of the actor that acts next, at its tick, alone.
+pub fn step_console(console: &mut Console, at: Tick) -> Stepped {
+    if at.0 >= MOST_TICK {
         return Stepped::Taken;
     }
-    match console.turn(Tick(next + 1)) {
+    match console.turn(Tick(at.0 + 1)) {
         Turned::Stopped(left) => Stepped::Left(left),
         _ => Stepped::Taken,
     }

@@ -111,8 +111,8 @@ impl Deck for Tape {
         self.console.looked(proc, at, width)
     }
 
-    fn step(&mut self) -> Stepped {
-        step_console(&mut self.console)
+    fn step(&mut self, at: Tick) -> Stepped {
+        step_console(&mut self.console, at)
     }
 
     fn run_to(&mut self, until: Tick) -> Stepped {

@@ -1,14 +1,14 @@
-use Rattle.std.proofs.Common.{rules, ℕ, ◌≡◌, ◌<◌, ◌≤◌, ◌^◌, ◌==◌, if◌then◌else◌, Bool, true, false, true≢false, not, List, [], ◌∷◌, length, Option, Some, None, is_some, IfSome, bit_and, refl, sym, arith}
+use Rattle.std.proofs.Common.{rules, ℕ, ◌≡◌, ◌<◌, ◌≤◌, ◌^◌, ◌==◌, if◌then◌else◌, Bool, true, false, List, [], ◌∷◌, length, Option, Some, None, is_some, IfSome, bit_and, refl, sym, arith}
 use Rattle.std.specs.Int.{bit_not, w32}
 use Rattle.ds_base.specs.declared.processors.Proc.{Proc}
 use Rattle.ds_base.specs.declared.ticks.Tick.{Tick}
-use Rattle.ds_base.proofs.Choices.{both, equal, is_equal, not_false}
+use Rattle.ds_base.proofs.Choices.{both, both_true, equal, is_equal}
 use Rattle.ds_state.specs.Formats.{bytes_written}
 use Rattle.ds_state.proofs.Standing.{IsExact, StandsFor}
 use Rattle.ds_state.proofs.Exact.{one_spelling, round_trips}
 use Rattle.ds_state.proofs.Kept.{kept_twice}
-use Rattle.ds_timers.specs.Irqs.{IrqState, IsIrq, events, interrupts_of, irq_levelled, level, shares_bit}
-use Rattle.ds_timers.specs.Saved.{IrqsAreSaved, IsAnchoredAt, TimersAreSaved, anchor_number, anchors_by, flags_by, irq_format, irq_format_by, timer_format, timers_format}
+use Rattle.ds_timers.specs.Irqs.{IrqState, IsIrq, events, interrupts_of, irq_levelled, level}
+use Rattle.ds_timers.specs.Saved.{IrqsAreSaved, IsAnchoredAt, TimersAreSaved, anchor_number, anchors_by, irq_format, irq_format_by, timer_format, timers_format}
 use Rattle.ds_timers.specs.declared.timers.Timer.{Timer}
 use Rattle.ds_timers.specs.Timing.{AreTimers, IsTimer, full, pace, runs_free, timer_at}
 
@@ -18,26 +18,20 @@ use Rattle.ds_timers.specs.Timing.{AreTimers, IsTimer, full, pace, runs_free, ti
 events_twice : (word : ℕ) → events (events word) ≡ events word
 events_twice word = kept_twice word (bit_not w32 level)
 
--- a rule of two tests holds where both do
-flags_hold : (asleep : Bool) (ie at flags : ℕ) → (asleep ≡ true → (not (bit_and ie flags == 0)) ≡ false) → (bit_and flags (bit_not w32 level) == flags) ≡ true
-    → flags_by asleep ie at flags ≡ true
-flags_hold false ie at flags apart kept = kept
-flags_hold true ie at flags apart kept = rw (not_false _ (apart refl)) kept
-
-pub irq_exact : (proc : Proc) (asleep : Bool) (at : ℕ) → IsExact (irq_format_by proc asleep) at
+pub irq_exact : (proc : Proc) (asked : ℕ → ℕ → Bool) (at : ℕ) → IsExact (irq_format_by proc asked) at
 unfolding irq_format_by
-irq_exact proc asleep at = λ ime _ _ ie _ _ if_ _ rule. (equal (events if_) if_ (both _ _ rule).1, search rules)
+irq_exact proc asked at = λ ime _ _ ie _ _ if_ _ rule. (equal (events if_) if_ (both _ _ rule).1, search rules)
 
-pub irq_stands : (proc : Proc) (asleep : Bool) (at : ℕ) (i : IrqState) → IsIrq i → bit_and i.ie (interrupts_of proc) ≡ i.ie → events i.if_ ≡ i.if_
-    → (asleep ≡ true → shares_bit i ≡ false) → StandsFor (irq_format_by proc asleep) at i
+pub irq_stands : (proc : Proc) (asked : ℕ → ℕ → Bool) (at : ℕ) (i : IrqState) → IsIrq i → bit_and i.ie (interrupts_of proc) ≡ i.ie
+    → events i.if_ ≡ i.if_ → asked i.ie i.if_ ≡ true → StandsFor (irq_format_by proc asked) at i
 unfolding irq_format_by
-irq_stands proc asleep at i is kept low apart =
+irq_stands proc asked at i is kept low holds =
     let ie = is.ie in let if_ = is.if_ in
     let enables = is_equal _ _ kept in
     let flags : (events (events i.if_) == events i.if_) ≡ true = is_equal _ _ (events_twice i.if_) in
     let fits : events i.if_ < 2 ^ 32 = rw (low) if_ in
-    let ruled : flags_by asleep i.ie at (events i.if_) ≡ true =
-    flags_hold asleep i.ie at (events i.if_) (λ on. rw (low) (apart on)) flags in
+    let holds_low : asked i.ie (events i.if_) ≡ true = rw (low) holds in
+    let ruled = both_true _ _ holds_low flags in
     ((tt, refl, (ie, enables, (fits, ruled, tt))), rw low refl)
 
 -- an anchor is there exactly where the timer counts time
@@ -93,10 +87,10 @@ timers_stand at timers early are anchored =
     λ which l. timer_stands which at (timer_at timers which) early (are.each which l) (anchored which l) in
     ((stands 0 (omega arith), (stands 1 (omega arith), (stands 2 (omega arith), (stands 3 (omega arith), tt)))), four_are timers are.four)
 
-bytes_by : (proc : Proc) (asleep : Bool) (before : List ℕ) (i : IrqState)
-    → bytes_written (irq_format_by proc asleep) before i ≡ bytes_written (irq_format proc) before i
+bytes_by : (proc : Proc) (asked : ℕ → ℕ → Bool) (before : List ℕ) (i : IrqState)
+    → bytes_written (irq_format_by proc asked) before i ≡ bytes_written (irq_format proc) before i
 unfolding irq_format_by
-bytes_by proc asleep before i = refl
+bytes_by proc asked before i = refl
 
 levels : (proc : Proc) (before : List ℕ) (i : IrqState) → bytes_written (irq_format proc) before i ≡ bytes_written (irq_format proc) before (irq_levelled i false)
 unfolding irq_format_by
@@ -104,12 +98,12 @@ levels proc before i = rw (events_twice i.if_) refl
 
 pub irqs_saved : IrqsAreSaved
 irqs_saved = record {
-  back = λ proc at i is kept low. round_trips (irq_format proc) at i (irq_stands proc false at i is kept low (λ on. absurd (true≢false (sym on))));
-  back_by = λ proc asleep at i is kept low apart. round_trips (irq_format_by proc asleep) at i (irq_stands proc asleep at i is kept low apart);
+  back = λ proc at i is kept low. round_trips (irq_format proc) at i (irq_stands proc (λ ie flags. true) at i is kept low refl);
+  back_by = λ proc asked at i is kept low holds. round_trips (irq_format_by proc asked) at i (irq_stands proc asked at i is kept low holds);
   level = levels;
   same_bytes = bytes_by;
-  spelling = λ proc at. one_spelling (irq_format proc) at (irq_exact proc false at);
-  spelling_by = λ proc asleep at. one_spelling (irq_format_by proc asleep) at (irq_exact proc asleep at);
+  spelling = λ proc at. one_spelling (irq_format proc) at (irq_exact proc (λ ie flags. true) at);
+  spelling_by = λ proc asked at. one_spelling (irq_format_by proc asked) at (irq_exact proc asked at);
 }
 
 pub timers_saved : TimersAreSaved

@@ -1,10 +1,10 @@
 //! The interrupt words in bytes.
 
-ghost use Rattle.std.specs.Prelude.{◌≡◌, Bool, OnOk};
+ghost use Rattle.std.specs.Prelude.{◌≡◌, ℕ, Bool, OnOk};
 ghost use Rattle.ds_base.specs.declared.processors.Proc.{Proc};
 ghost use Rattle.ds_state.specs.Formats.{bytes_written};
 ghost use Rattle.ds_state.specs.Reading.{GivesRead, read_format};
-ghost use Rattle.ds_timers.specs.Saved.{irq_format, irq_format_by};
+ghost use Rattle.ds_timers.specs.Saved.{irq_format, irq_format_by, sleeps_by};
 
 use crate::irqs::{Irq, events, level};
 use ds_base::{Proc, Tick};
@@ -15,7 +15,7 @@ impl Irq {
     /// Puts IME, IE and IF, 9 bytes; the geometry FIFO's bit of IF as 0. The error is want of memory.
     #[tactic(auto, unfolding(crate::specs::Saved::irq_format_by))]
     pub fn pack(&self, into: &mut Packer) -> Result<(), AllocError>
-        ensures { (proc : Proc) (asleep : Bool) → OnOk result (into.new ≡ bytes_written (irq_format_by proc asleep) into.old self.now) }
+        ensures { (proc : Proc) (asked : ℕ → ℕ → Bool) → OnOk result (into.new ≡ bytes_written (irq_format_by proc asked) into.old self.now) }
     {
         into.put_flag(self.ime)?;
         into.put_u32(self.ie)?;
@@ -39,7 +39,7 @@ impl Irq {
         proc: Proc,
         asleep: bool,
     ) -> Result<Irq, Unpacked>
-        ensures { GivesRead (λ i. i) result from.new (read_format (irq_format_by proc asleep) at.0 from.old) }
+        ensures { GivesRead (λ i. i) result from.new (read_format (irq_format_by proc (sleeps_by asleep)) at.0 from.old) }
     {
         let ime = from.take_flag()?;
         let ie = from.take_kept_word(Irq::kept(proc))?;

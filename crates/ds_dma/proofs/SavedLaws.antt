@@ -9,7 +9,7 @@ use Rattle.ds_base.proofs.DueNumbers.{due_again, number_again}
 use Rattle.ds_dma.specs.declared.channels.Channel.{Channel}
 use Rattle.ds_dma.specs.Channels.{IsChannel, is_running}
 use Rattle.ds_dma.specs.Controls.{channel_control_mask, greatest_count, is_enabled, most_burst}
-use Rattle.ds_dma.specs.Saved.{AreTriggeredBy, ComesNoEarlier, DmasAreSaved, burst_left, channel_format, comes_by, channel_format_by, dma_format, dma_format_by, last_by, last_must, last_waits, must_run, numbered_last, runs_by, units_left, waits_by}
+use Rattle.ds_dma.specs.Saved.{AreTriggeredBy, ComesNoEarlier, DmasAreSaved, asked_last, burst_left, channel_format, comes_by, channel_format_by, dma_format, dma_format_by, last_by, last_waits, numbered_last, runs_by, units_left, waits_by}
 use Rattle.ds_dma.specs.States.{DmaState, IsDma, WaitsBriefly, any_runs, channel_at, dma_due, last_tick, most_waits}
 use Rattle.ds_dma.specs.declared.channels.LastUnit.{LastUnit}
 use Rattle.ds_dma.specs.declared.dma.DmaDue.{DmaDue}
@@ -28,9 +28,9 @@ runs_again false n = refl
 trigger_again : (running : Bool) (at n : ℕ) → earlier_tick running at n ≡ true → tick_or_0 (due_number (numbered_due (tick_where running n))) ≡ n
 trigger_again running at n rule = ap tick_or_0 (number_again (tick_where running n)) ∙ earlier_again running at n rule
 
-channel_exact : (proc : Proc) (which : ℕ) (must : Bool) (at : ℕ) → IsExact (channel_format_by proc which must) at
+channel_exact : (proc : Proc) (which : ℕ) (asked : Bool → Bool) (at : ℕ) → IsExact (channel_format_by proc which asked) at
 unfolding channel_format_by
-channel_exact proc which must at = λ sad _ _ dad _ _ cnt _ _ from _ _ to _ _ remaining _ _ burst _ _ running _ _ trigger _ rule.
+channel_exact proc which asked at = λ sad _ _ dad _ _ cnt _ _ from _ _ to _ _ remaining _ _ burst _ _ running _ _ trigger _ rule.
     (trigger_again running at trigger rule, (runs_again running trigger, search rules))
 
 last_again : (tick waits at : ℕ) → waits_by tick at waits ≡ true → (tick_or_0 (due_number (last_tick (numbered_last tick waits))) ≡ tick) × (last_waits (numbered_last tick waits) ≡ waits)
@@ -44,16 +44,16 @@ last_again tick waits at rule = by_number tick rule where
 waits_of : (proc : Proc) (channels : List Channel) (tick at waits : ℕ) → last_by proc channels tick at waits ≡ true → waits_by tick at waits ≡ true
 waits_of proc channels tick at waits rule = (both _ _ rule).1
 
-pub dma_exact : (proc : Proc) (late : Bool) (at : ℕ) → IsExact (dma_format_by proc late) at
+pub dma_exact : (proc : Proc) (asked : Bool → Bool) (at : ℕ) → IsExact (dma_format_by proc asked) at
 unfolding dma_format_by
-dma_exact proc late at = (
-  channel_exact proc 0 false at,
+dma_exact proc asked at = (
+  channel_exact proc 0 (λ running. true) at,
   λ zero _. (
-    channel_exact proc 1 false at,
+    channel_exact proc 1 (λ running. true) at,
     λ one _. (
-      channel_exact proc 2 false at,
+      channel_exact proc 2 (λ running. true) at,
       λ two _. (
-        channel_exact proc 3 (last_must late zero one two) at,
+        channel_exact proc 3 (asked_last asked (is_running zero || is_running one || is_running two)) at,
         λ three _.
             λ tick _ _ waits _ rule. (let again = last_again tick waits at (waits_of proc (zero ∷ one ∷ two ∷ three ∷ []) tick at waits rule) in (again.1, (again.0, search rules))),
       ),
@@ -104,14 +104,10 @@ below v small = grind (arith, small)
 address_kept : (v : ℕ) → v < 2 ^ 28 → (bit_and v 0x0FFFFFFF == v) ≡ true
 address_kept v small = is_equal _ _ (and_mask v 28 ∙ below v small)
 
-must_holds : (must running : Bool) → (must ≡ true → running ≡ true) → must_run must running ≡ true
-must_holds true running runs = runs refl
-must_holds false running runs = refl
-
-channel_stands : (proc : Proc) (which : ℕ) (must : Bool) (at : ℕ) (c : Channel) → at ≤ 2 ^ 56 → IsChannel proc which c
-    → IfSome (due_number c.trigger) (λ trigger. trigger ≤ at) → (must ≡ true → is_running c ≡ true) → StandsFor (channel_format_by proc which must) at c
+channel_stands : (proc : Proc) (which : ℕ) (asked : Bool → Bool) (at : ℕ) (c : Channel) → at ≤ 2 ^ 56 → IsChannel proc which c
+    → IfSome (due_number c.trigger) (λ trigger. trigger ≤ at) → asked (is_running c) ≡ true → StandsFor (channel_format_by proc which asked) at c
 unfolding channel_format_by
-channel_stands proc which must at c early is triggered runs =
+channel_stands proc which asked at c early is triggered holds_so =
     let enabled = is_enabled c.cnt in
     let sad = address_kept c.sad is.sad in let dad = address_kept c.dad is.dad in
     let s = is.sad in let d = is.dad in
@@ -128,7 +124,7 @@ channel_stands proc which must at c early is triggered runs =
     let to = used_holds enabled at c.to (λ off. (is.none off).1) in
     let units = units_hold proc which at enabled c.remaining is.some is.remaining (λ off. (is.none off).2) in
     let burst = burst_holds enabled c.remaining at c.burst is.within is.burst in
-    let rules_hold = both_true _ _ (must_holds must (is_running c) runs) (runs_hold enabled c.burst at c.trigger is.waits (λ off. (is.none off).3)) in
+    let rules_hold = both_true _ _ holds_so (runs_hold enabled c.burst at c.trigger is.waits (λ off. (is.none off).3)) in
     let fits = earlier_fits (due_number c.trigger) at early triggered in
     let holds = earlier_holds (due_number c.trigger) (is_running c) at triggered (running_number c.trigger) in
     let made = ap numbered_due (earlier_made (due_number c.trigger) (is_running c) (running_number c.trigger)) ∙ due_again c.trigger in (
@@ -209,23 +205,15 @@ come_hold Nine at due comes = refl
 come_hold Seven at None comes = refl
 come_hold Seven at (Some due) comes = is_le at due.tick.0 (comes refl)
 
--- where one of four runs and three don't, the fourth does
-last_runs : (late a b c d : Bool) → (late ≡ true → (a || b || c || d) ≡ true) → (late && not (a || b || c)) ≡ true → d ≡ true
-last_runs false a b c d runs must = absurd (true≢false (sym must))
-last_runs true true b c d runs must = absurd (true≢false (sym must))
-last_runs true false true c d runs must = absurd (true≢false (sym must))
-last_runs true false false true d runs must = absurd (true≢false (sym must))
-last_runs true false false false d runs must = runs refl
-
-pub dma_stands : (late : Bool) (at : ℕ) (s : DmaState) → at ≤ 2 ^ 56 → IsDma s → AreTriggeredBy at s → ComesNoEarlier at s
-    → (late ≡ true → any_runs s.channels ≡ true) → StandsFor (dma_format_by s.proc late) at s
+pub dma_stands : (asked : Bool → Bool) (at : ℕ) (s : DmaState) → at ≤ 2 ^ 56 → IsDma s → AreTriggeredBy at s → ComesNoEarlier at s
+    → asked (any_runs s.channels) ≡ true → StandsFor (dma_format_by s.proc asked) at s
 unfolding dma_format_by
-dma_stands late at s early is by comes runs =
+dma_stands asked at s early is by comes holds =
     let channel = channel_at s.channels in
-    let stands : (which : ℕ) (must : Bool) → which < 4 → (must ≡ true → is_running (channel which) ≡ true) → StandsFor (channel_format_by s.proc which must) at (channel which) =
-    λ which must l. channel_stands s.proc which must at (channel which) early (is.each which l) (by.trigger which l) in
-    let free : (which : ℕ) → which < 4 → StandsFor (channel_format s.proc which) at (channel which) =
-    λ which l. stands which false l (λ on. absurd (true≢false (sym on))) in
+    let stands : (which : ℕ) (own : Bool → Bool) → which < 4 → own (is_running (channel which)) ≡ true
+        → StandsFor (channel_format_by s.proc which own) at (channel which) =
+    λ which own l. channel_stands s.proc which own at (channel which) early (is.each which l) (by.trigger which l) in
+    let free : (which : ℕ) → which < 4 → StandsFor (channel_format s.proc which) at (channel which) = λ which l. stands which (λ running. true) l refl in
     let keeps = last_keeps at s.last early is.last by.last in
     let again = made_again s is keeps.made in
     let due = ap (λ (x : DmaState). comes_by s.proc at (dma_due x)) again ∙ come_hold s.proc at (dma_due s) comes in (
@@ -236,8 +224,7 @@ dma_stands late at s early is by comes runs =
           (
             free 2 (omega arith),
             (
-              stands 3 (last_must late (channel 0) (channel 1) (channel 2)) (omega arith)
-                  (last_runs late (is_running (channel 0)) (is_running (channel 1)) (is_running (channel 2)) (is_running (channel 3)) runs),
+              stands 3 (asked_last asked (is_running (channel 0) || is_running (channel 1) || is_running (channel 2))) (omega arith) holds,
               (keeps.fits, keeps.earlier, (keeps.small, both_true _ _ due keeps.waits, tt)),
             ),
           ),
@@ -246,15 +233,16 @@ dma_stands late at s early is by comes runs =
       again,
     )
 
-bytes_by : (proc : Proc) (late : Bool) (before : List ℕ) (s : DmaState) → bytes_written (dma_format_by proc late) before s ≡ bytes_written (dma_format proc) before s
+bytes_by : (proc : Proc) (asked : Bool → Bool) (before : List ℕ) (s : DmaState)
+    → bytes_written (dma_format_by proc asked) before s ≡ bytes_written (dma_format proc) before s
 unfolding dma_format_by channel_format_by
-bytes_by proc late before s = refl
+bytes_by proc asked before s = refl
 
 pub dmas_saved : DmasAreSaved
 dmas_saved = record {
-  back = λ at s early is by comes. round_trips (dma_format s.proc) at s (dma_stands false at s early is by comes (λ on. absurd (true≢false (sym on))));
-  back_by = λ late at s early is by comes runs. round_trips (dma_format_by s.proc late) at s (dma_stands late at s early is by comes runs);
+  back = λ at s early is by comes. round_trips (dma_format s.proc) at s (dma_stands (λ runs. true) at s early is by comes refl);
+  back_by = λ asked at s early is by comes holds. round_trips (dma_format_by s.proc asked) at s (dma_stands asked at s early is by comes holds);
   same_bytes = bytes_by;
-  spelling = λ proc at. one_spelling (dma_format proc) at (dma_exact proc false at);
-  spelling_by = λ proc late at. one_spelling (dma_format_by proc late) at (dma_exact proc late at);
+  spelling = λ proc at. one_spelling (dma_format proc) at (dma_exact proc (λ runs. true) at);
+  spelling_by = λ proc asked at. one_spelling (dma_format_by proc asked) at (dma_exact proc asked at);
 }

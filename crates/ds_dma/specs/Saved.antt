@@ -25,12 +25,9 @@ burst_left enabled units at burst = not enabled || (nat_le burst units && nat_le
 abbrev pub runs_by : Bool → ℕ → ℕ → Bool → Bool
 runs_by enabled burst at running = if running then enabled else burst == 0
 
-abbrev pub must_run : Bool → Bool → Bool
-must_run must running = if must then running else true
-
--- a channel, by whether it must run, which what stands before it tells
-unfoldable pub channel_format_by : Proc → ℕ → Bool → Format Channel Channel
-channel_format_by proc which must = do
+-- a channel, by what else is asked of whether it runs
+unfoldable pub channel_format_by : Proc → ℕ → (Bool → Bool) → Format Channel Channel
+channel_format_by proc which asked = do
   sad ← one_field (number_code 4) (λ c. c.sad) (keeps_mask 0x0FFFFFFF)
   dad ← one_field (number_code 4) (λ c. c.dad) (keeps_mask 0x0FFFFFFF)
   cnt ← one_field (number_code 4) (λ c. c.cnt) (keeps_mask (channel_control_mask proc which))
@@ -38,7 +35,7 @@ channel_format_by proc which must = do
   to ← one_field (number_code 4) (λ c. c.to) (used_where (is_enabled cnt))
   remaining ← one_field (number_code 4) (λ c. c.remaining) (units_left proc which (is_enabled cnt))
   burst ← one_field (number_code 4) (λ c. c.burst) (burst_left (is_enabled cnt) remaining)
-  running ← one_field flag_code is_running (λ at running. (if must then running else true) && runs_by (is_enabled cnt) burst at running)
+  running ← one_field flag_code is_running (λ at running. asked running && runs_by (is_enabled cnt) burst at running)
   trigger ← one_field (number_code 8) (λ c. tick_or_0 (due_number c.trigger)) (earlier_tick running)
   done (record {
     sad = sad;
@@ -52,7 +49,7 @@ channel_format_by proc which must = do
   })
 
 abbrev pub channel_format : Proc → ℕ → Format Channel Channel
-channel_format proc which = channel_format_by proc which false
+channel_format proc which = channel_format_by proc which (λ running. true)
 
 -- the waits of the last unit, 0 where there was none
 abbrev pub last_waits : Option LastUnit → ℕ
@@ -76,25 +73,28 @@ abbrev pub last_by : Proc → List Channel → ℕ → ℕ → ℕ → Bool
 last_by proc channels tick at waits =
     comes_by proc at (dma_due (record { proc = proc; channels = channels; last = numbered_last tick waits })) && waits_by tick at waits
 
--- of four of which one must run it is the last where no other does
-abbrev pub last_must : Bool → Channel → Channel → Channel → Bool
-last_must late zero one two = late && not (is_running zero || is_running one || is_running two)
+-- what is asked of whether any runs, asked of the last one, by whether one before it runs
+abbrev pub asked_last : (Bool → Bool) → Bool → Bool → Bool
+asked_last asked before running = asked (before || running)
 
--- The four channels of a processor, by whether it is late: its own next step is due before the tick of the state, as only a channel that runs can
--- have it. This is told where the last channel says whether it runs.
-unfoldable pub dma_format_by : Proc → Bool → Format DmaState DmaState
-dma_format_by proc late = do
-  zero ← its (channel_format_by proc 0 false) (λ s. channel_at s.channels 0)
-  one ← its (channel_format_by proc 1 false) (λ s. channel_at s.channels 1)
-  two ← its (channel_format_by proc 2 false) (λ s. channel_at s.channels 2)
-  three ← its (channel_format_by proc 3 (last_must late zero one two)) (λ s. channel_at s.channels 3)
+-- The four channels of a processor, by what else is asked of whether any of them runs, which is told where the last one says whether it does
+unfoldable pub dma_format_by : Proc → (Bool → Bool) → Format DmaState DmaState
+dma_format_by proc asked = do
+  zero ← its (channel_format proc 0) (λ s. channel_at s.channels 0)
+  one ← its (channel_format proc 1) (λ s. channel_at s.channels 1)
+  two ← its (channel_format proc 2) (λ s. channel_at s.channels 2)
+  three ← its (channel_format_by proc 3 (asked_last asked (is_running zero || is_running one || is_running two))) (λ s. channel_at s.channels 3)
   tick ← one_field (number_code 8) (λ s. tick_or_0 (due_number (last_tick s.last))) (earlier_tick true)
   waits ← one_field (number_code 4) (λ s. last_waits s.last) (last_by proc (zero ∷ one ∷ two ∷ three ∷ []) tick)
   done (record { proc = proc; channels = zero ∷ one ∷ two ∷ three ∷ []; last = numbered_last tick waits })
 
--- the same of one that isn't late
+-- the same where nothing else is asked
 abbrev pub dma_format : Proc → Format DmaState DmaState
-dma_format proc = dma_format_by proc false
+dma_format proc = dma_format_by proc (λ runs. true)
+
+-- where a processor is late, since its own next step is due before the tick of the state, a channel of it runs, as no other can hold it
+abbrev pub late_runs_by : Bool → Bool → Bool
+late_runs_by late runs = not late || runs
 
 -- the channels at a tick: no trigger is later, and the last unit isn't later, nor at tick 0
 pub record AreTriggeredBy (at : ℕ) (s : DmaState) : Type 0 where
@@ -105,13 +105,12 @@ pub record AreTriggeredBy (at : ℕ) (s : DmaState) : Type 0 where
 abbrev pub ComesNoEarlier : ℕ → DmaState → Type 0
 ComesNoEarlier at s = s.proc ≡ Seven → IfSome (dma_due s) (λ due. at ≤ due.tick.0)
 
--- Their bytes are read as they were, those of a processor that is late where a channel runs; and bytes that are read are theirs. The bytes are the
--- same whether it is late or not.
+-- Their bytes are read as they were where what else is asked holds, and bytes that are read are theirs. The bytes are the same whatever is asked.
 pub record DmasAreSaved : Type 0 where
   pub back : (at : ℕ) (s : DmaState) → at ≤ 2 ^ 56 → IsDma s → AreTriggeredBy at s → ComesNoEarlier at s → RoundTrips (dma_format s.proc) at s
-  pub back_by : (late : Bool) (at : ℕ) (s : DmaState) → at ≤ 2 ^ 56 → IsDma s → AreTriggeredBy at s → ComesNoEarlier at s
-      → (late ≡ true → any_runs s.channels ≡ true) → RoundTrips (dma_format_by s.proc late) at s
-  pub same_bytes : (proc : Proc) (late : Bool) (before : List ℕ) (s : DmaState)
-      → bytes_written (dma_format_by proc late) before s ≡ bytes_written (dma_format proc) before s
+  pub back_by : (asked : Bool → Bool) (at : ℕ) (s : DmaState) → at ≤ 2 ^ 56 → IsDma s → AreTriggeredBy at s → ComesNoEarlier at s
+      → asked (any_runs s.channels) ≡ true → RoundTrips (dma_format_by s.proc asked) at s
+  pub same_bytes : (proc : Proc) (asked : Bool → Bool) (before : List ℕ) (s : DmaState)
+      → bytes_written (dma_format_by proc asked) before s ≡ bytes_written (dma_format proc) before s
   pub spelling : (proc : Proc) (at : ℕ) → OneSpelling (dma_format proc) at
-  pub spelling_by : (proc : Proc) (late : Bool) (at : ℕ) → OneSpelling (dma_format_by proc late) at
+  pub spelling_by : (proc : Proc) (asked : Bool → Bool) (at : ℕ) → OneSpelling (dma_format_by proc asked) at

@@ -1,9 +1,9 @@
 //! One channel in bytes.
 
-ghost use Rattle.std.specs.Prelude.{◌≡◌, ◌<◌, ◌≤◌, ◌&&◌, Bool, Some, IfOk, OnOk};
+ghost use Rattle.std.specs.Prelude.{◌≡◌, ◌<◌, ◌≤◌, Bool, Some, IfOk, OnOk};
 ghost use Rattle.ds_base.specs.Schedules.{IsEarly};
 ghost use Rattle.ds_dma.specs.Channels.{IsChannel, is_running};
-ghost use Rattle.ds_dma.specs.Saved.{burst_left, channel_format_by, must_run, runs_by, units_left};
+ghost use Rattle.ds_dma.specs.Saved.{asked_last, burst_left, channel_format, channel_format_by, late_runs_by, runs_by, units_left};
 ghost use Rattle.ds_state.specs.Formats.{bytes_written};
 ghost use Rattle.ds_state.specs.Reading.{GivesRead, read_format};
 
@@ -16,7 +16,7 @@ use std::alloc::AllocError;
 /// Puts a channel.
 #[tactic(auto, unfolding(crate::specs::Saved::channel_format_by))]
 pub fn put(into: &mut Packer, proc: Proc, which: u8, channel: Channel) -> Result<(), AllocError>
-    ensures { (must : Bool) → OnOk result (into.new ≡ bytes_written (channel_format_by proc which must) into.old channel) }
+    ensures { (asked : Bool → Bool) → OnOk result (into.new ≡ bytes_written (channel_format_by proc which asked) into.old channel) }
 {
     into.put_u32(channel.sad)?;
     into.put_u32(channel.dad)?;
@@ -34,17 +34,28 @@ pub fn put(into: &mut Packer, proc: Proc, which: u8, channel: Channel) -> Result
     Ok(())
 }
 
-/// Takes a channel, which must run where it is told to.
+/// Takes a channel of which nothing else is asked.
+pub fn take(from: &mut Unpacker, at: Tick, proc: Proc, which: u8) -> Result<Channel, Unpacked>
+    requires { IsEarly (Some at) }
+    ensures reads { GivesRead (λ x. x) result from.new (read_format (channel_format proc which) at.0 from.old) }
+    ensures is { IfOk result (λ channel. IsChannel proc which channel) }
+    ensures early { IfOk result (λ channel. IsEarly channel.trigger) }
+{
+    take_last(from, at, proc, which, false, false)
+}
+
+/// Takes a channel, by whether its processor is late and whether one of those before it runs: where it is late and none does, this one has to run.
 #[tactic(auto, unfolding(crate::specs::Saved::channel_format_by))]
-pub fn take(
+pub fn take_last(
     from: &mut Unpacker,
     at: Tick,
     proc: Proc,
     which: u8,
-    must: bool,
+    late: bool,
+    before: bool,
 ) -> Result<Channel, Unpacked>
     requires { IsEarly (Some at) }
-    ensures reads { GivesRead (λ x. x) result from.new (read_format (channel_format_by proc which must) at.0 from.old) }
+    ensures reads { GivesRead (λ x. x) result from.new (read_format (channel_format_by proc which (asked_last (late_runs_by late) before)) at.0 from.old) }
     ensures is { IfOk result (λ channel. IsChannel proc which channel) }
     ensures early { IfOk result (λ channel. IsEarly channel.trigger) }
 {
@@ -62,7 +73,10 @@ pub fn take(
     holds(has_burst(enabled, remaining, burst), offset)?;
     let offset = from.place();
     let running = from.take_flag()?;
-    holds(may_run(must, enabled, burst, running), offset)?;
+    holds(
+        (!late || (before || running)) && may_run(enabled, burst, running),
+        offset,
+    )?;
     let trigger = from.take_earlier(running, at.0)?;
     Ok(Channel {
         sad,
@@ -95,12 +109,8 @@ fn has_burst(enabled: bool, units: u32, burst: u32) -> bool
 }
 
 /// Whether it may say so of its running.
-fn may_run(must: bool, enabled: bool, burst: u32, running: bool) -> bool
-    ensures { result ≡ (must_run must running && runs_by enabled burst 0 running) }
+fn may_run(enabled: bool, burst: u32, running: bool) -> bool
+    ensures { result ≡ runs_by enabled burst 0 running }
 {
-    if running {
-        enabled
-    } else {
-        !must && burst == 0
-    }
+    if running { enabled } else { burst == 0 }
 }

@@ -2,7 +2,7 @@
 
 ghost use Rattle.std.specs.Prelude.{◌≡◌, ◌≤◌, ◌^◌, Bool, Some, OnOk, true};
 ghost use Rattle.ds_base.specs.Schedules.{IsEarly};
-ghost use Rattle.ds_dma.specs.Saved.{DmasAreSaved, comes_by, dma_format, dma_format_by, last_waits, numbered_last, waits_by};
+ghost use Rattle.ds_dma.specs.Saved.{DmasAreSaved, comes_by, dma_format, dma_format_by, last_waits, late_runs_by, numbered_last, waits_by};
 ghost use Rattle.ds_dma.specs.States.{WaitsBriefly, dma_due, last_tick, most_waits};
 ghost use Rattle.ds_state.specs.Formats.{bytes_written};
 ghost use Rattle.ds_state.specs.Reading.{GivesRead, read_format};
@@ -53,7 +53,7 @@ impl Dma {
     /// Puts the four channels, and the last unit's tick and waits, 160 bytes. The error is want of memory.
     #[tactic(auto, unfolding(crate::specs::Saved::dma_format_by))]
     pub fn pack(&self, into: &mut Packer) -> Result<(), AllocError>
-        ensures { (late : Bool) → OnOk result (into.new ≡ bytes_written (dma_format_by self.now.proc late) into.old self.now) }
+        ensures { (asked : Bool → Bool) → OnOk result (into.new ≡ bytes_written (dma_format_by self.now.proc asked) into.old self.now) }
     {
         saved::put(into, self.proc, 0, self.channel(0))?;
         saved::put(into, self.proc, 1, self.channel(1))?;
@@ -84,13 +84,13 @@ impl Dma {
     #[tactic(auto, unfolding(crate::specs::Saved::dma_format_by))]
     pub fn unpack_by(from: &mut Unpacker, at: Tick, proc: Proc, late: bool) -> Result<Dma, Unpacked>
         requires { IsEarly (Some at) }
-        ensures { GivesRead (λ d. d) result from.new (read_format (dma_format_by proc late) at.0 from.old) }
+        ensures { GivesRead (λ d. d) result from.new (read_format (dma_format_by proc (late_runs_by late)) at.0 from.old) }
     {
-        let zero = saved::take(from, at, proc, 0, false)?;
-        let one = saved::take(from, at, proc, 1, false)?;
-        let two = saved::take(from, at, proc, 2, false)?;
-        let last = late && !(runs(zero) || runs(one) || runs(two));
-        let three = saved::take(from, at, proc, 3, last)?;
+        let zero = saved::take(from, at, proc, 0)?;
+        let one = saved::take(from, at, proc, 1)?;
+        let two = saved::take(from, at, proc, 2)?;
+        let before = runs(zero) || runs(one) || runs(two);
+        let three = saved::take_last(from, at, proc, 3, late, before)?;
         let tick = from.take_earlier(true, at.0)?;
         let offset = from.place();
         let waits = from.take_u32()?;

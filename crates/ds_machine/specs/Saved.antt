@@ -1,4 +1,4 @@
-use Rattle.std.specs.Prelude.{ℕ, ◌≡◌, ◌+◌, ◌^◌, ◌==◌, ◌&&◌, not, nat_le, nat_lt, if◌then◌else◌, Bool, false, bit_and, List, [], ◌∷◌, Ok}
+use Rattle.std.specs.Prelude.{ℕ, ◌≡◌, ◌+◌, ◌^◌, ◌==◌, ◌&&◌, ◌||◌, not, nat_le, nat_lt, if◌then◌else◌, Bool, false, bit_and, List, [], ◌∷◌, Ok}
 use Rattle.arm_core.specs.Registers.{RegisterState}
 use Rattle.arm_core.specs.Saved.{registers_format}
 use Rattle.cp15_tcm.specs.Registers.{Cp15State}
@@ -12,7 +12,7 @@ use Rattle.ds_base.specs.declared.processors.Arch.TheVariants.{V4, V5}
 use Rattle.ds_base.specs.declared.processors.Proc.TheVariants.{Nine, Seven}
 use Rattle.ds_card.specs.Cards.{CardState}
 use Rattle.ds_card.specs.Saved.{card_format}
-use Rattle.ds_dma.specs.Saved.{dma_format_by}
+use Rattle.ds_dma.specs.Saved.{dma_format, dma_format_by}
 use Rattle.ds_dma.specs.States.{DmaState, any_runs, awaits_geometry, dma_due}
 use Rattle.ds_ipc.specs.Ipcs.{IpcState}
 use Rattle.ds_ipc.specs.Saved.{ipc_format}
@@ -26,10 +26,9 @@ use Rattle.ds_state.specs.Formats.{Format, number_code, flag_code, array, done, 
 use Rattle.ds_state.specs.FormatLaws.{OneSpelling}
 use Rattle.ds_state.specs.Reading.{Left, read_format}
 use Rattle.ds_timers.specs.Irqs.{IrqState, irq_levelled, level, shares_bit}
-use Rattle.ds_timers.specs.Saved.{irq_format_by, timers_format}
-use Rattle.gx_fifo.specs.GxStates.{GxState, gx_level, is_stalled}
+use Rattle.ds_timers.specs.Saved.{irq_format, irq_format_by, timers_format}
+use Rattle.gx_fifo.specs.GxStates.{GxState, gx_level, half_empty_by, is_stalled, level_by, stalls_by}
 use Rattle.gx_fifo.specs.Saved.{gx_format_by}
-use Rattle.gx_fifo.specs.declared.gx.saved.Asked.{Asked}
 use Rattle.video2d.specs.Saved.{video_format}
 use Rattle.video2d.specs.Videos.{VideoState}
 use Rattle.vram_banks.specs.Cells.{Banks}
@@ -57,15 +56,12 @@ saved_size memory = memory_size memory
 
 -- ---- the whole
 
--- What the rest of the machine asks of the geometry FIFO: while ARM9 is halted no bit may stand in its IE and IF both, the FIFO's own among them;
+-- What ARM9 asks of GXSTAT's selector and how many entries wait: while it is halted no bit stands in its IE and IF both, the FIFO's own among them;
 -- where it is late, and no channel of it runs, a stall holds it; and no channel of it waits while the FIFO is half empty.
-abbrev pub asks_by : ℕ → Bool → ℕ → IrqState → DmaState → Asked
-asks_by at halted due irq dma = record {
-  wakes = halted && shares_bit irq;
-  hears = halted && not (bit_and irq.ie level == 0);
-  late = late_by at halted due && not (any_runs dma.channels);
-  waits = awaits_geometry dma;
-}
+abbrev pub asks_by : ℕ → Bool → ℕ → IrqState → DmaState → ℕ → ℕ → Bool
+asks_by at halted due irq dma selector waiting =
+    not (halted && shares_bit irq) && not (halted && not (bit_and irq.ie level == 0) && level_by selector waiting)
+    && (not (late_by at halted due && not (any_runs dma.channels)) || stalls_by waiting) && not (awaits_geometry dma && half_empty_by waiting)
 
 -- What a stall's end left, which isn't saved: ARM9's channel that is due would have come before the tick of the state, had a stall not held it.
 abbrev pub released_again : ℕ → GxState → DmaState → ℕ
@@ -104,8 +100,8 @@ machine_format file keys steps_of_nine steps_of_seven events at = do
   vram ← its banks_format (λ s. s.io.vram)
   oam ← one_field (array (saved_size Oam)) (λ s. s.oam) any
   wramcnt ← one_field (number_code 1) (λ s. s.io.wramcnt) (at_most 3)
-  irq_of_nine ← its (irq_format_by Nine false) (λ s. irq_levelled s.io.nine.irq false)
-  irq_of_seven ← its (irq_format_by Seven halted_of_seven) (λ s. s.io.seven.irq)
+  irq_of_nine ← its (irq_format Nine) (λ s. irq_levelled s.io.nine.irq false)
+  irq_of_seven ← its (irq_format_by Seven (λ ie flags. not (halted_of_seven && not (bit_and ie flags == 0)))) (λ s. s.io.seven.irq)
   timers_of_nine ← its timers_format (λ s. s.io.nine.timers)
   timers_of_seven ← its timers_format (λ s. s.io.seven.timers)
   divider ← its divider_format (λ s. s.io.divider)
@@ -114,8 +110,8 @@ machine_format file keys steps_of_nine steps_of_seven events at = do
   pressed ← one_field (number_code 2) (λ s. s.io.pressed) (at_most 0xFFF)
   keycnt_of_nine ← one_field (number_code 2) (λ s. s.io.nine.keycnt) (keeps_mask 0xC3FF)
   keycnt_of_seven ← one_field (number_code 2) (λ s. s.io.seven.keycnt) (keeps_mask 0xC3FF)
-  dma_of_nine ← its (dma_format_by Nine false) (λ s. s.io.nine.dma)
-  dma_of_seven ← its (dma_format_by Seven (late_by at halted_of_seven due_of_seven)) (λ s. s.io.seven.dma)
+  dma_of_nine ← its (dma_format Nine) (λ s. s.io.nine.dma)
+  dma_of_seven ← its (dma_format_by Seven (λ runs. not (late_by at halted_of_seven due_of_seven) || runs)) (λ s. s.io.seven.dma)
   fill ← each 4 word_format (λ s. s.io.fill)
   video ← its (video_format at) (λ s. s.io.video)
   gx ← its (gx_format_by (asks_by at halted_of_nine due_of_nine irq_of_nine dma_of_nine)) (λ s. s.io.gx)

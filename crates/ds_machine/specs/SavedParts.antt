@@ -12,7 +12,7 @@ use Rattle.ds_base.specs.declared.processors.Arch.TheVariants.{V4, V5}
 use Rattle.ds_base.specs.declared.processors.Proc.TheVariants.{Nine, Seven}
 use Rattle.ds_card.specs.Cards.{CardState}
 use Rattle.ds_card.specs.Saved.{card_format}
-use Rattle.ds_dma.specs.Saved.{dma_format_by}
+use Rattle.ds_dma.specs.Saved.{dma_format, dma_format_by, late_runs_by}
 use Rattle.ds_dma.specs.States.{DmaState, any_runs, awaits_geometry, dma_due}
 use Rattle.ds_ipc.specs.Ipcs.{IpcState}
 use Rattle.ds_ipc.specs.Saved.{ipc_format}
@@ -26,17 +26,17 @@ use Rattle.ds_state.specs.Formats.{Format, number_code, flag_code, array, done, 
 use Rattle.ds_state.specs.FormatLaws.{OneSpelling}
 use Rattle.ds_state.specs.Reading.{Left, read_format}
 use Rattle.ds_timers.specs.Irqs.{IrqState, irq_levelled, level, shares_bit}
-use Rattle.ds_timers.specs.Saved.{irq_format_by, timers_format}
+use Rattle.ds_timers.specs.Saved.{irq_format, irq_format_by, sleeps_by, timers_format}
 use Rattle.ds_timers.specs.declared.timers.Timer.{Timer}
 use Rattle.gx_fifo.specs.GxStates.{GxState, gx_level, is_stalled}
-use Rattle.gx_fifo.specs.Saved.{gx_format_by}
+use Rattle.gx_fifo.specs.Saved.{gx_format_by, holds_by}
 use Rattle.gx_fifo.specs.declared.gx.saved.Asked.{Asked}
 use Rattle.video2d.specs.Saved.{video_format}
 use Rattle.video2d.specs.Videos.{VideoState}
 use Rattle.vram_banks.specs.Cells.{Banks}
 use Rattle.vram_banks.specs.Saved.{banks_format}
 use Rattle.ds_machine.specs.States.{MachineState, ProcessorState}
-use Rattle.ds_machine.specs.Saved.{asks_by, late_by, own_due, released_again, saved_size, script_from}
+use Rattle.ds_machine.specs.Saved.{late_by, own_due, released_again, saved_size, script_from}
 
 -- The parts in which the code takes the machine from bytes (our choice of form). No public call speaks of them.
 
@@ -56,12 +56,17 @@ processor_format arch = do
 abbrev pub saved_processor : ProcessorState → ProcessorIoState → SavedProcessor
 saved_processor p processor_io = record { registers = p.registers; halted = processor_io.halted; due = p.due }
 
--- whether it is late, and what the machine asks of the geometry FIFO by ARM9
+-- whether it is late, and what ARM9 asks of the geometry FIFO, worked out before how many entries wait is read
 abbrev pub is_late : ℕ → SavedProcessor → Bool
 is_late at p = late_by at p.halted p.due
 
 abbrev pub asked_of : ℕ → SavedProcessor → IrqState → DmaState → Asked
-asked_of at nine irq dma = asks_by at nine.halted nine.due irq dma
+asked_of at nine irq dma = record {
+  wakes = nine.halted && shares_bit irq;
+  hears = nine.halted && not (bit_and irq.ie level == 0);
+  late = is_late at nine && not (any_runs dma.channels);
+  waits = awaits_geometry dma;
+}
 
 -- a processor, with so many steps
 abbrev pub made_processor : SavedProcessor → ℕ → ProcessorState
@@ -159,8 +164,8 @@ saved_units u = record {
 unfoldable pub units_format : Bool → Format SavedUnits SavedUnits
 units_format halted = do
   wramcnt ← one_field (number_code 1) (λ u. u.wramcnt) (at_most 3)
-  irq_of_nine ← its (irq_format_by Nine false) (λ u. u.irq_of_nine)
-  irq_of_seven ← its (irq_format_by Seven halted) (λ u. u.irq_of_seven)
+  irq_of_nine ← its (irq_format Nine) (λ u. u.irq_of_nine)
+  irq_of_seven ← its (irq_format_by Seven (sleeps_by halted)) (λ u. u.irq_of_seven)
   timers_of_nine ← its timers_format (λ u. u.timers_of_nine)
   timers_of_seven ← its timers_format (λ u. u.timers_of_seven)
   divider ← its divider_format (λ u. u.divider)
@@ -196,8 +201,8 @@ saved_channels u = record { nine = u.nine.dma; seven = u.seven.dma; fill = u.fil
 -- by whether ARM7 is late: then one of its channels runs
 unfoldable pub channels_format : Bool → Format SavedChannels SavedChannels
 channels_format late = do
-  nine ← its (dma_format_by Nine false) (λ c. c.nine)
-  seven ← its (dma_format_by Seven late) (λ c. c.seven)
+  nine ← its (dma_format Nine) (λ c. c.nine)
+  seven ← its (dma_format_by Seven (late_runs_by late)) (λ c. c.seven)
   fill ← each 4 word_format (λ c. c.fill)
   done (record { nine = nine; seven = seven; fill = fill })
 
@@ -266,6 +271,6 @@ machine_parts around at = do
   units ← its (units_format processors.seven.halted) (λ s. saved_units s.io)
   channels ← its (channels_format (is_late at processors.seven)) (λ s. saved_channels s.io)
   video ← its (video_format at) (λ s. s.io.video)
-  gx ← its (gx_format_by (asked_of at processors.nine units.irq_of_nine channels.nine)) (λ s. s.io.gx)
+  gx ← its (gx_format_by (holds_by (asked_of at processors.nine units.irq_of_nine channels.nine))) (λ s. s.io.gx)
   card ← its (card_format around.file) (λ s. s.io.card)
   done (made_machine around at processors memories (made_io at processors memories.vram units channels video gx card))

@@ -14,11 +14,10 @@ use Rattle.ds_state.proofs.Masks.{kept_top}
 use Rattle.ds_state.proofs.Soon.{soon_fits}
 use Rattle.gx_geometry.proofs.SavedLaws.{geometry_exact, geometry_stands}
 use Rattle.gx_fifo.specs.declared.entries.GxEntry.{GxEntry}
-use Rattle.gx_fifo.specs.declared.gx.saved.Asked.{Asked}
 use Rattle.gx_fifo.specs.Entries.{complete_command, most_entries}
 use Rattle.gx_fifo.specs.PackedWords.{first_parameters, is_given}
 use Rattle.gx_fifo.specs.GxStates.{GxState, waiting_entries}
-use Rattle.gx_fifo.specs.Saved.{GxIsSaved, IsSavedGx, are_left, asks_nothing, count_by, entry_format, gx_format, gx_format_by, holds_by, may_wait}
+use Rattle.gx_fifo.specs.Saved.{GxIsSaved, IsSavedGx, are_left, count_by, entry_format, gx_format, gx_format_by, may_wait}
 use Rattle.gx_fifo.proofs.Codes.{code_of, code_small, first_again, has_again}
 use Rattle.gx_fifo.proofs.Unpacks.{no_parameters}
 
@@ -149,7 +148,7 @@ waits_may parameter due head at true e none = rw e refl
 waits_may parameter due true at false e none = rw (e, none refl) refl
 waits_may parameter due false at false e none = rw (e, none refl) refl
 
-pub gx_exact : (asked : Asked) (at : ℕ) → IsExact (gx_format_by asked) at
+pub gx_exact : (asked : ℕ → ℕ → Bool) (at : ℕ) → IsExact (gx_format_by asked) at
 unfolding gx_format_by
 gx_exact asked at = (
   geometry_exact at,
@@ -162,10 +161,10 @@ gx_exact asked at = (
   ),
 )
 
-few_hold : (asked : Asked) (selector at count : ℕ) → holds_by asked selector count ≡ true → count ≤ most_entries → count_by asked selector at count ≡ true
+few_hold : (asked : ℕ → ℕ → Bool) (selector at count : ℕ) → asked selector count ≡ true → count ≤ most_entries → count_by asked selector at count ≡ true
 few_hold asked selector at count holds few = both_true _ _ holds (is_le count most_entries few)
 
-pub gx_stands : (asked : Asked) (at : ℕ) (s : GxState) → at ≤ 2 ^ 56 → IsSavedGx at s → holds_by asked s.selector (waiting_entries s) ≡ true
+pub gx_stands : (asked : ℕ → ℕ → Bool) (at : ℕ) (s : GxState) → at ≤ 2 ^ 56 → IsSavedGx at s → asked s.selector (waiting_entries s) ≡ true
     → StandsFor (gx_format_by asked) at s
 unfolding gx_format_by
 gx_stands asked at s early is holds =
@@ -186,16 +185,16 @@ gx_stands asked at s early is holds =
     (number_there s.due ∙ is.is.waiting.due) is.is.parameter in
     (search rules, rw (again, due) refl)
 
-bytes_by : (asked : Asked) (before : List ℕ) (s : GxState) → bytes_written (gx_format_by asked) before s ≡ bytes_written gx_format before s
+bytes_by : (asked : ℕ → ℕ → Bool) (before : List ℕ) (s : GxState) → bytes_written (gx_format_by asked) before s ≡ bytes_written gx_format before s
 unfolding gx_format_by
 bytes_by asked before s = refl
 
 pub gx_saved : GxIsSaved
 gx_saved = record {
-  back = λ at s early is. round_trips gx_format at s (gx_stands asks_nothing at s early is refl);
+  back = λ at s early is. round_trips gx_format at s (gx_stands (λ selector waiting. true) at s early is refl);
   back_by = λ asked at s early is holds. round_trips (gx_format_by asked) at s (gx_stands asked at s early is holds);
   same_bytes = bytes_by;
-  spelling = λ at. one_spelling gx_format at (gx_exact asks_nothing at);
+  spelling = λ at. one_spelling gx_format at (gx_exact (λ selector waiting. true) at);
   spelling_by = λ asked at. one_spelling (gx_format_by asked) at (gx_exact asked at);
 }
 

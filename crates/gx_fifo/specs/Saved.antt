@@ -41,23 +41,22 @@ are_left packed at left = (packed == 0 && left == 0) || (nat_le 1 left && nat_le
 abbrev pub may_wait : ℕ → Bool → Bool → ℕ → Bool → Bool
 may_wait parameter due head at waits = if waits then not due else (parameter == 0 && (if head then due else not due))
 
--- What the rest of a machine asks of how many entries wait: never so many, or the interrupt's level down, or a stall, or the FIFO not half empty.
+-- what the rest of a machine asks of how many entries wait: never so many, or the interrupt's level down, or a stall, or the FIFO not half empty
 abbrev pub holds_by : Asked → ℕ → ℕ → Bool
 holds_by asked selector waiting =
-    (if asked.wakes then false else true)
-    && ((if asked.hears then not (level_by selector waiting) else true)
-    && ((if asked.late then stalls_by waiting else true) && (if asked.waits then not (half_empty_by waiting) else true)))
+    not asked.wakes && not (asked.hears && level_by selector waiting) && (not asked.late || stalls_by waiting)
+    && not (asked.waits && half_empty_by waiting)
 
 -- nothing is asked
 abbrev pub asks_nothing : Asked
 asks_nothing = record { wakes = false; hears = false; late = false; waits = false }
 
-abbrev pub count_by : Asked → ℕ → ℕ → ℕ → Bool
-count_by asked selector at count = holds_by asked selector count && at_most most_entries at count
+abbrev pub count_by : (ℕ → ℕ → Bool) → ℕ → ℕ → ℕ → Bool
+count_by asked selector at count = asked selector count && at_most most_entries at count
 
--- By what the rest of a machine asks, which is told where it is said how many entries wait. DISP3DCNT's kept bits have no bit 13, which stands with
--- the engine's results
-unfoldable pub gx_format_by : Asked → Format GxState GxState
+-- By what else is asked of GXSTAT's selector and how many entries wait, which is told where it is said how many do. DISP3DCNT's kept bits have no
+-- bit 13, which stands with the engine's results
+unfoldable pub gx_format_by : (ℕ → ℕ → Bool) → Format GxState GxState
 gx_format_by asked = do
   geometry ← its geometry_format (λ s. s.geometry)
   display ← one_field (number_code 2) (λ s. s.display) (keeps_mask 0x5FFF)
@@ -78,7 +77,7 @@ gx_format_by asked = do
   })
 
 abbrev pub gx_format : Format GxState GxState
-gx_format = gx_format_by asks_nothing
+gx_format = gx_format_by (λ selector waiting. true)
 
 -- what holds of each number at every time, beside what `IsGx` has
 pub record HasGxBounds (s : GxState) : Type 0 where
@@ -92,11 +91,11 @@ pub record IsSavedGx (at : ℕ) (s : GxState) : Type 0 where
   pub words : AllByRecursion (λ e. e.word < 2 ^ 32) s.fifo.entries
   pub due : soon at (due_number s.due) ≡ true
 
--- Its bytes are read as it was, where it holds what the rest asks, and bytes that are read are its own. Its bytes are the same whatever is asked.
+-- Its bytes are read as it was, where what else is asked holds, and bytes that are read are its own. Its bytes are the same whatever is asked.
 pub record GxIsSaved : Type 0 where
   pub back : (at : ℕ) (s : GxState) → at ≤ 2 ^ 56 → IsSavedGx at s → RoundTrips gx_format at s
-  pub back_by : (asked : Asked) (at : ℕ) (s : GxState) → at ≤ 2 ^ 56 → IsSavedGx at s → holds_by asked s.selector (waiting_entries s) ≡ true
+  pub back_by : (asked : ℕ → ℕ → Bool) (at : ℕ) (s : GxState) → at ≤ 2 ^ 56 → IsSavedGx at s → asked s.selector (waiting_entries s) ≡ true
       → RoundTrips (gx_format_by asked) at s
-  pub same_bytes : (asked : Asked) (before : List ℕ) (s : GxState) → bytes_written (gx_format_by asked) before s ≡ bytes_written gx_format before s
+  pub same_bytes : (asked : ℕ → ℕ → Bool) (before : List ℕ) (s : GxState) → bytes_written (gx_format_by asked) before s ≡ bytes_written gx_format before s
   pub spelling : (at : ℕ) → OneSpelling gx_format at
-  pub spelling_by : (asked : Asked) (at : ℕ) → OneSpelling (gx_format_by asked) at
+  pub spelling_by : (asked : ℕ → ℕ → Bool) (at : ℕ) → OneSpelling (gx_format_by asked) at

@@ -1,6 +1,6 @@
 //! The geometry engine and what waits for it in bytes.
 
-ghost use Rattle.std.specs.Prelude.{◌≡◌, ◌<◌, ◌≤◌, ◌^◌, is_some, true, false, IfOk, OnOk};
+ghost use Rattle.std.specs.Prelude.{◌≡◌, ◌<◌, ◌≤◌, ◌^◌, ℕ, Bool, is_some, true, false, IfOk, OnOk};
 ghost use Rattle.ds_base.specs.Bits.{bit};
 ghost use Rattle.ds_state.specs.Formats.{bytes_written, flag_code, keeps_mask, number_code};
 ghost use Rattle.ds_state.specs.Reading.{GivesIn, GivesRead, read_code, read_format, ruled};
@@ -93,7 +93,7 @@ fn take_waiting(
 
 /// Takes how many entries wait: at most 324, and so many as what is asked holds with.
 fn take_count(from: &mut Unpacker, asked: Asked, selector: u8) -> Result<u16, Unpacked>
-    ensures reads { GivesRead (λ n. n) result from.new (ruled (count_by asked selector 0) from.old (read_code (number_code 2) from.old)) }
+    ensures reads { GivesRead (λ n. n) result from.new (ruled (count_by (holds_by asked) selector 0) from.old (read_code (number_code 2) from.old)) }
     ensures most { IfOk result (λ n. n ≤ most_entries) }
 {
     let offset = from.place();
@@ -106,7 +106,7 @@ impl Gx {
     /// Puts the engine, and what waits for it. The error is want of memory.
     #[tactic(auto, unfolding(crate::specs::Saved::gx_format_by))]
     pub fn pack(&self, into: &mut Packer) -> Result<(), AllocError>
-        ensures { (asked : Asked) → OnOk result (into.new ≡ bytes_written (gx_format_by asked) into.old self.now) }
+        ensures { (asked : ℕ → ℕ → Bool) → OnOk result (into.new ≡ bytes_written (gx_format_by asked) into.old self.now) }
     {
         self.engine.pack(into)?;
         into.put_u16(self.display as u16)?;
@@ -139,7 +139,7 @@ impl Gx {
         at: Tick,
         asked: Asked,
     ) -> Result<Gx, Unpacked>
-        ensures { GivesIn (λ g. g) result from.new (read_format (gx_format_by asked) at.0 from.old) }
+        ensures { GivesIn (λ g. g) result from.new (read_format (gx_format_by (holds_by asked)) at.0 from.old) }
     {
         let engine = Geometry::unpack(alloc, from, at)?;
         let display = take_display(from)?;

@@ -11,7 +11,7 @@ use Rattle.ds_machine.proofs.Words.{ScanState, scan_before, scan_due, scan_due_t
 use Rattle.ds_machine.proofs.Words.{SavedProcessor, asked_of, channels_format, is_late, machine_format, machine_parts, memories_format}
 use Rattle.ds_machine.proofs.Words.{processor_format, processors_format, released_again, saved_channels, saved_memories, saved_processors}
 use Rattle.ds_machine.proofs.Words.{saved_units, script_from, units_format, IsSound, MachineState, ProcessorState, processor_of, tick_of}
-use Rattle.ds_machine.proofs.Words.{IsWithinTick, around_of}
+use Rattle.ds_machine.proofs.Words.{IsWithinTick, around_of, dma_format, late_runs_by, sleeps_by}
 use Rattle.std.proofs.lemmas.Nat.{and_le_l, and_le_r}
 use Rattle.std.proofs.lemmas.Nat.Bits.{bit_at-lt, bit_at_above, bit_at_not}
 use Rattle.ds_base.proofs.Choices.{equal_self, is_le, isnt_lt, lt_of}
@@ -247,8 +247,13 @@ module _ (keys : List KeyLine) (at : ℕ) (s : MachineState) (early : at ≤ 2 ^
       let small = kept_small (io_of u proc).keycnt 0xC3FF kept in
       (omega (arith, small), is_equal _ _ kept)
 
-  never_asleep : (shares : Bool) → false ≡ true → shares ≡ false
-  never_asleep shares h = absurd (true≢false (sym h))
+  not_both : (a b : Bool) → (a ≡ true → not b ≡ true) → not (a && b) ≡ true
+  not_both true b h = h refl
+  not_both false b h = refl
+
+  or_holds : (a b : Bool) → (a ≡ true → b ≡ true) → (not a || b) ≡ true
+  or_holds true b h = h refl
+  or_holds false b h = refl
 
   units_stand : StandsFor (units_format u.seven.halted) at (saved_units u)
   unfolding units_format
@@ -264,9 +269,10 @@ module _ (keys : List KeyLine) (at : ℕ) (s : MachineState) (early : at ≤ 2 ^
           wide,
           is_le u.wramcnt 3 (omega (arith, wramcnt)),
           (
-            irq_stands Nine false at saved_irq irq_of_nine (within.units.own Nine).ie (kept_twice u.nine.irq.if_ (bit_not w32 level)) (never_asleep (shares_bit saved_irq)),
+            irq_stands Nine (λ ie flags. true) at saved_irq irq_of_nine (within.units.own Nine).ie (kept_twice u.nine.irq.if_ (bit_not w32 level)) refl,
             (
-              irq_stands Seven u.seven.halted at u.seven.irq (b.irq Seven) (within.units.own Seven).ie ((within.units.own Seven).level refl) (awake_no_more Seven),
+              irq_stands Seven (sleeps_by u.seven.halted) at u.seven.irq (b.irq Seven) (within.units.own Seven).ie ((within.units.own Seven).level refl)
+                  (ap not (sound.asleep Seven)),
               (
                 timers_stand at u.nine.timers early sound.parts.io.nine.timers (timer_anchored Nine),
                 (
@@ -354,20 +360,18 @@ module _ (keys : List KeyLine) (at : ℕ) (s : MachineState) (early : at ≤ 2 ^
       let nine = (within.units.own Nine).is_its in
       let seven = (within.units.own Seven).is_its in
       let late_seven = is_late at (saved_processor s.seven.processor u.seven) in
-      let of_nine : StandsFor (dma_format_by Nine false) at u.nine.dma =
-      subst (λ (proc : Proc). StandsFor (dma_format_by proc false) at u.nine.dma) nine
-      (dma_stands false at u.nine.dma early is.nine.dma (triggered_by Nine) (λ is. absurd (nine_or_seven (sym nine ∙ is))) (never_late (any_runs u.nine.dma.channels))) in
-      let of_seven : StandsFor (dma_format_by Seven late_seven) at u.seven.dma =
-      subst (λ (proc : Proc). StandsFor (dma_format_by proc late_seven) at u.seven.dma) seven
-      (dma_stands late_seven at u.seven.dma early is.seven.dma (triggered_by Seven) (λ is. seven_comes) seven_runs) in (
+      let of_nine : StandsFor (dma_format Nine) at u.nine.dma =
+      subst (λ (proc : Proc). StandsFor (dma_format proc) at u.nine.dma) nine
+      (dma_stands (λ runs. true) at u.nine.dma early is.nine.dma (triggered_by Nine) (λ is. absurd (nine_or_seven (sym nine ∙ is))) refl) in
+      let of_seven : StandsFor (dma_format_by Seven (late_runs_by late_seven)) at u.seven.dma =
+      subst (λ (proc : Proc). StandsFor (dma_format_by proc (late_runs_by late_seven)) at u.seven.dma) seven
+      (dma_stands (late_runs_by late_seven) at u.seven.dma early is.seven.dma (triggered_by Seven) (λ is. seven_comes)
+      (or_holds late_seven (any_runs u.seven.dma.channels) seven_runs)) in (
         (of_nine, (of_seven, (b.four, words_stand at u.fill b.fill, tt))),
         refl,
       ) where
         nine_or_seven : Nine ≡ Seven → ⊥
         nine_or_seven h = grind (arith, h)
-
-        never_late : (runs : Bool) → false ≡ true → runs ≡ true
-        never_late runs h = absurd (true≢false (sym h))
 
   -- ---- the display, geometry and the card
 
@@ -435,10 +439,6 @@ module _ (keys : List KeyLine) (at : ℕ) (s : MachineState) (early : at ≤ 2 ^
   late_stalls false false false due from h =
       absurd (let lt = lt_of due at (both (nat_lt due at) true h).0 in let le = from refl in omega (arith, lt, le))
 
-  if_holds : (asked b : Bool) → (asked ≡ true → b ≡ true) → (if asked then b else true) ≡ true
-  if_holds true b h = h refl
-  if_holds false b h = refl
-
   waits_filled : (waits half : Bool) → not (half && waits) ≡ true → waits ≡ true → not half ≡ true
   waits_filled true true h e = h
   waits_filled true false h e = refl
@@ -446,11 +446,11 @@ module _ (keys : List KeyLine) (at : ℕ) (s : MachineState) (early : at ≤ 2 ^
 
   asks_hold : holds_by (asked_of at (saved_processor s.nine.processor u.nine) saved_irq u.nine.dma) u.gx.selector (waiting_entries u.gx) ≡ true
   asks_hold =
-      both_true _ _ (if_holds (u.nine.halted && shares_bit saved_irq) false (λ h. absurd (true≢false (sym h ∙ wakes_not u.nine.halted refl))))
-      (both_true _ _ (if_holds _ (not (gx_level u.gx)) (hears_low u.nine.halted (gx_level u.gx) refl refl))
-      (both_true _ _ (if_holds _ (is_stalled u.gx) (late_stalls u.nine.halted (any_runs u.nine.dma.channels) (is_stalled u.gx) s.nine.processor.due
-      (due_unblocked (blocks_processor u.nine || is_stalled u.gx) s.nine.processor (late 22 (omega arith)))))
-      (if_holds _ (not (is_half_empty u.gx)) (waits_filled (awaits_geometry u.nine.dma) (is_half_empty u.gx) settled.1))))
+      let hears = not_both _ (gx_level u.gx) (hears_low u.nine.halted (gx_level u.gx) refl refl) in
+      let late = or_holds _ (is_stalled u.gx) (late_stalls u.nine.halted (any_runs u.nine.dma.channels) (is_stalled u.gx) s.nine.processor.due
+      (due_unblocked (blocks_processor u.nine || is_stalled u.gx) s.nine.processor (late 22 (omega arith)))) in
+      let waits = not_both _ (is_half_empty u.gx) (waits_filled (awaits_geometry u.nine.dma) (is_half_empty u.gx) settled.1) in
+      both_true _ _ (both_true _ _ (both_true _ _ (ap not (wakes_not u.nine.halted refl)) hears) late) waits
 
   -- ---- what a stall's end left
 
@@ -510,7 +510,7 @@ module _ (keys : List KeyLine) (at : ℕ) (s : MachineState) (early : at ≤ 2 ^
             (
               video_stands at u.video video_saved,
               (
-                gx_stands (asked_of at (saved_processor s.nine.processor u.nine) saved_irq u.nine.dma) at u.gx early gx_saved asks_hold,
+                gx_stands (holds_by (asked_of at (saved_processor s.nine.processor u.nine) saved_irq u.nine.dma)) at u.gx early gx_saved asks_hold,
                 (card_stands s.file at u.card early card_saved, tt),
               ),
             ),

@@ -1,6 +1,6 @@
 use Rattle.ds_machine.proofs.Words.{ℕ, ◌≡◌, Bool, false, List, [], Ok, Err, refl, sym, ◌∙◌, subst, Proc, card_format, channel_format_by, dma_format_by, DmaState}
 use Rattle.ds_machine.proofs.Words.{bytes_written, ◌>>=◌, ReadAnswer, read_format, IrqState, irq_levelled, irq_format_by, gx_format_by, video_format}
-use Rattle.ds_machine.proofs.Words.{Around, around_of, machine_format, machine_parts, MachineState}
+use Rattle.ds_machine.proofs.Words.{Around, around_of, machine_format, machine_parts, MachineState, dma_format, irq_format}
 use Rattle.ds_state.proofs.Exact.{one_spelling}
 use Rattle.ds_state.specs.Formats.{Format, done, then_field, then_part, list}
 use Rattle.ds_state.specs.Reading.{Left, read_code, read_list, ruled}
@@ -13,12 +13,14 @@ use Rattle.ds_machine.specs.Saved.{MachinesAreSaved}
 -- The bytes are those of the state alone, and what is read has what was handed in.
 
 -- whatever a rule looks at
-pub dma_bytes : (proc other : Proc) (late : Bool) (before : List ℕ) (s : DmaState) → bytes_written (dma_format_by proc false) before s ≡ bytes_written (dma_format_by other late) before s
+pub dma_bytes : (proc other : Proc) (asked : Bool → Bool) (before : List ℕ) (s : DmaState)
+    → bytes_written (dma_format proc) before s ≡ bytes_written (dma_format_by other asked) before s
 unfolding dma_format_by channel_format_by
-dma_bytes proc other late before s = refl
+dma_bytes proc other asked before s = refl
 
 -- ARM9's interrupt words without the FIFO's bit have the bytes that they have with it
-pub irq_bytes : (proc : Proc) (before : List ℕ) (i : IrqState) → bytes_written (irq_format_by proc false) before i ≡ bytes_written (irq_format_by proc false) before (irq_levelled i false)
+pub irq_bytes : (proc : Proc) (before : List ℕ) (i : IrqState)
+    → bytes_written (irq_format proc) before i ≡ bytes_written (irq_format proc) before (irq_levelled i false)
 irq_bytes proc before i = irqs_saved.level proc before i
 
 machine_bytes : (around other : Around) (at later : ℕ) (before : List ℕ) (s : MachineState)

@@ -1,7 +1,7 @@
 use Rattle.ds_machine.proofs.Words.{rules, ℕ, ◌≡◌, Bool, true, false, refl, ◌∙◌, ap, bit_not, w32, registers_format, cp15_format, equal, Arch, V4, V5}
 use Rattle.ds_machine.proofs.Words.{Nine, Seven, and_or_apart, word_format, StandsFor, IrqState, events, irq_levelled, level, irq_format_by, gx_level}
 use Rattle.ds_machine.proofs.Words.{Around, SavedUnits, asked_of, is_late, channels_format, machine_parts, memories_format, processor_format}
-use Rattle.ds_machine.proofs.Words.{processors_format, units_format}
+use Rattle.ds_machine.proofs.Words.{processors_format, units_format, late_runs_by, irq_format, sleeps_by, holds_by}
 use Rattle.cp15_tcm.proofs.Kept.{control_again}
 use Rattle.ds_card.proofs.SavedLaws.{card_exact}
 use Rattle.ds_dma.proofs.SavedLaws.{dma_exact}
@@ -46,9 +46,9 @@ memories_exact at = λ main _ _ shared _ _ wram _ _ itcm _ _ dtcm _ _ palette _ 
 pub units_exact : (halted : Bool) (at : ℕ) → IsExact (units_format halted) at
 unfolding units_format
 units_exact halted at = λ wramcnt _ _. (
-  irq_exact Nine false at,
+  irq_exact Nine (λ ie flags. true) at,
   λ irq_of_nine _. (
-    irq_exact Seven halted at,
+    irq_exact Seven (sleeps_by halted) at,
     λ irq_of_seven _. (
       timers_exact at,
       λ timers_of_nine _. (
@@ -67,7 +67,8 @@ units_exact halted at = λ wramcnt _ _. (
 
 pub channels_exact : (late : Bool) (at : ℕ) → IsExact (channels_format late) at
 unfolding channels_format
-channels_exact late at = (dma_exact Nine false at, λ nine _. (dma_exact Seven late at, λ seven _. (word_exact at, λ fill _ _. search rules)))
+channels_exact late at =
+    (dma_exact Nine (λ runs. true) at, λ nine _. (dma_exact Seven (late_runs_by late) at, λ seven _. (word_exact at, λ fill _ _. search rules)))
 
 -- ARM9's interrupt words without the FIFO's bit, which is made anew
 
@@ -79,7 +80,7 @@ levelled_again : (i : IrqState) (on : Bool) → events i.if_ ≡ i.if_ → irq_l
 levelled_again i on low =
     ap (λ (n : ℕ). (let again : IrqState = record { ime = i.ime; ie = i.ie; if_ = n } in again)) (events_levelled i on low)
 
-pub saved_events : (at : ℕ) (i : IrqState) → StandsFor (irq_format_by Nine false) at i → events i.if_ ≡ i.if_
+pub saved_events : (at : ℕ) (i : IrqState) → StandsFor (irq_format Nine) at i → events i.if_ ≡ i.if_
 unfolding irq_format_by
 saved_events at i stands = ap (λ (j : IrqState). j.if_) stands.1
 
@@ -103,7 +104,7 @@ machine_exact around at = (
         λ channels _. (
           video_exact at,
           λ video _. (
-            gx_exact (asked_of at processors.nine units.irq_of_nine channels.nine) at,
+            gx_exact (holds_by (asked_of at processors.nine units.irq_of_nine channels.nine)) at,
             λ gx _. (
               card_exact around.file at,
               λ card _.

@@ -8,7 +8,7 @@ use Rattle.ds_machine.proofs.Words.{Asked, scans_follow, video_format, ScanState
 use Rattle.ds_machine.proofs.Words.{SavedProcessor, SavedProcessors, SavedUnits, asked_of, channels_format, is_late, machine_format}
 use Rattle.ds_machine.proofs.Words.{machine_parts, memories_format, processor_format, processors_format, released_again, saved_channels}
 use Rattle.ds_machine.proofs.Words.{saved_memories, saved_processors, saved_units, script_from, units_format, AreAsleep, HasSoundParts, MachineState}
-use Rattle.ds_machine.proofs.Words.{counts_of, with_file, HasBothStatuses}
+use Rattle.ds_machine.proofs.Words.{counts_of, with_file, HasBothStatuses, late_runs_by, irq_format, sleeps_by, holds_by}
 use Rattle.std.specs.Int.Bits.{and_le_r, or_add_and}
 use Rattle.cp15_tcm.specs.Registers.{control_mask, control_ones}
 use Rattle.ds_state.proofs.Codes.{AreBytes}
@@ -23,8 +23,8 @@ use Rattle.ds_machine.proofs.SavedRunning.{IsDueFrom, answered, card_from, divid
 
 -- what its units keep, each by itself
 pub record UnitsStand (halted : Bool) (at : ℕ) (u : SavedUnits) : Type 0 where
-  pub irq_of_nine : StandsFor (irq_format_by Nine false) at u.irq_of_nine
-  pub irq_of_seven : StandsFor (irq_format_by Seven halted) at u.irq_of_seven
+  pub irq_of_nine : StandsFor (irq_format Nine) at u.irq_of_nine
+  pub irq_of_seven : StandsFor (irq_format_by Seven (sleeps_by halted)) at u.irq_of_seven
   pub timers_of_nine : StandsFor timers_format at u.timers_of_nine
   pub timers_of_seven : StandsFor timers_format at u.timers_of_seven
   pub divider : StandsFor divider_format at u.divider
@@ -41,7 +41,8 @@ units_stand halted at u stands = record {
   root = stands.0.2.1.1.1.1.1.0;
 }
 
-channels_seven : (late : Bool) (at : ℕ) (c : SavedChannels) → StandsFor (channels_format late) at c → StandsFor (dma_format_by Seven late) at c.seven
+channels_seven : (late : Bool) (at : ℕ) (c : SavedChannels) → StandsFor (channels_format late) at c
+    → StandsFor (dma_format_by Seven (late_runs_by late)) at c.seven
 unfolding channels_format
 channels_seven late at c stands = stands.0.1.0
 
@@ -52,7 +53,7 @@ pub record MachineStands (around : Around) (at : ℕ) (s : MachineState) : Type 
   pub units : StandsFor (units_format s.io.seven.halted) at (saved_units s.io)
   pub channels : StandsFor (channels_format (is_late at (saved_processors s).seven)) at (saved_channels s.io)
   pub video : StandsFor (video_format at) at s.io.video
-  pub gx : StandsFor (gx_format_by (asked_of at (saved_processors s).nine (irq_levelled s.io.nine.irq false) s.io.nine.dma)) at s.io.gx
+  pub gx : StandsFor (gx_format_by (holds_by (asked_of at (saved_processors s).nine (irq_levelled s.io.nine.irq false) s.io.nine.dma))) at s.io.gx
   pub card : StandsFor (card_format around.file) at s.io.card
   pub released : s.io.released ≡ released_again at s.io.gx s.io.nine.dma
   pub irq : s.io.nine.irq ≡ irq_levelled (irq_levelled s.io.nine.irq false) (gx_level s.io.gx)
@@ -111,7 +112,7 @@ module _ (around : Around) (at : ℕ) (s : MachineState) (m : MachineStands arou
   units : UnitsStand s.io.seven.halted at (saved_units s.io)
   units = units_stand s.io.seven.halted at (saved_units s.io) m.units
 
-  seven_dma : StandsFor (dma_format_by Seven (is_late at (saved_processors s).seven)) at s.io.seven.dma
+  seven_dma : StandsFor (dma_format_by Seven (late_runs_by (is_late at (saved_processors s).seven))) at s.io.seven.dma
   seven_dma = channels_seven (is_late at (saved_processors s).seven) at (saved_channels s.io) m.channels
 
   abbrev asks : Asked
@@ -133,7 +134,7 @@ module _ (around : Around) (at : ℕ) (s : MachineState) (m : MachineStands arou
       let nine = timers_from at s.io.nine.timers units.timers_of_nine in
       let seven = timers_from at s.io.seven.timers units.timers_of_seven in
       let of_nine = nine_channel at s.io.gx s.io.nine.dma s.io.released m.released in
-      let of_seven = seven_channel (is_late at (saved_processors s).seven) at s.io.seven.dma seven_dma in
+      let of_seven = seven_channel (late_runs_by (is_late at (saved_processors s).seven)) at s.io.seven.dma seven_dma in
       over_from at (dues_of s) (
         keys_from_at,
         (
@@ -159,7 +160,7 @@ module _ (around : Around) (at : ℕ) (s : MachineState) (m : MachineStands arou
                             (
                               root_from at s.io.root units.root,
                               (
-                                gx_from asks at s.io.gx m.gx,
+                                gx_from (holds_by asks) at s.io.gx m.gx,
                                 (
                                   card_from around.file at s.io.card m.card,
                                   (
@@ -231,7 +232,7 @@ module _ (around : Around) (at : ℕ) (s : MachineState) (m : MachineStands arou
   goes_on parts few =
       let nine = m.nine in let seven = m.seven in let events = m.events in
       let counts : counts_of s ≤ 24 * at = omega (arith, few, nine, seven, events) in
-      starts_running at s (record { parts = parts; asleep = asleep; settled = are_settled }) none_earlier_due counts (gx_run asks at s.io.gx m.gx)
+      starts_running at s (record { parts = parts; asleep = asleep; settled = are_settled }) none_earlier_due counts (gx_run (holds_by asks) at s.io.gx m.gx)
 
 pub saved_running : (around : Around) (at : ℕ) (s : MachineState) → StandsFor (machine_parts around at) at s → HasSoundParts s
     → around.nine + around.seven + around.events ≤ 24 * at → IsRunning at s

@@ -1,6 +1,6 @@
 use Rattle.ds_machine.proofs.Words.{ℕ, ◌≡◌, Bool, Ok, Err, Result, ap, subst, sym, card_format, ◌>>=◌, ReadAnswer, read_format, GxState, gx_format_by}
 use Rattle.ds_machine.proofs.Words.{Asked, video_format, VideoState, Around, SavedChannels, SavedProcessors, SavedUnits, asked_of, channels_format}
-use Rattle.ds_machine.proofs.Words.{is_late, machine_parts, memories_format, processors_format, units_format}
+use Rattle.ds_machine.proofs.Words.{is_late, machine_parts, memories_format, processors_format, units_format, holds_by}
 use Rattle.std.specs.Prelude.{IsErrAnd}
 use Rattle.ds_state.specs.Reading.{FailsIn, Fails, GivesIn, Left}
 use Rattle.ds_state.specs.declared.unpacker.Unpacked.{Unpacked}
@@ -54,19 +54,19 @@ module _ (around : Around) (at : ℕ) (l : Left) (p : SavedProcessors) (m : Save
   video_fails h = rw (front.processors, front.memories, front.units, front.channels) (fails_then e (read_format (video_format at) at left) _ h)
 
   module _ (video : VideoState) (after : Left) (read : read_format (video_format at) at left ≡ Ok (video, after)) where
-    pub gx_fails : (asked : Asked) → asked ≡ asked_of at p.nine u.irq_of_nine c.nine → FailsIn e (read_format (gx_format_by asked) at after)
+    pub gx_fails : (asked : Asked) → asked ≡ asked_of at p.nine u.irq_of_nine c.nine → FailsIn e (read_format (gx_format_by (holds_by asked)) at after)
         → FailsIn e (read_format (machine_parts around at) at l)
     unfolding machine_parts
     gx_fails asked is h =
         rw (front.processors, front.memories, front.units, front.channels, read)
-        (fails_then e (read_format (gx_format_by (asked_of at p.nine u.irq_of_nine c.nine)) at after) _
-        (subst (λ (a : Asked). FailsIn e (read_format (gx_format_by a) at after)) is h))
+        (fails_then e (read_format (gx_format_by (holds_by (asked_of at p.nine u.irq_of_nine c.nine))) at after) _
+        (subst (λ (a : Asked). FailsIn e (read_format (gx_format_by (holds_by a)) at after)) is h))
 
     pub card_fails : (asked : Asked) (gx : GxState) (last : Left) → asked ≡ asked_of at p.nine u.irq_of_nine c.nine
-        → read_format (gx_format_by asked) at after ≡ Ok (gx, last) → Fails e (read_format (card_format around.file) at last)
+        → read_format (gx_format_by (holds_by asked)) at after ≡ Ok (gx, last) → Fails e (read_format (card_format around.file) at last)
         → FailsIn e (read_format (machine_parts around at) at l)
     unfolding machine_parts
     card_fails asked gx last is reads h =
-        let of_asked = subst (λ (a : Asked). read_format (gx_format_by a) at after ≡ Ok (gx, last)) is reads in
+        let of_asked = subst (λ (a : Asked). read_format (gx_format_by (holds_by a)) at after ≡ Ok (gx, last)) is reads in
         rw (front.processors, front.memories, front.units, front.channels, read, of_asked)
         (fails_then e (read_format (card_format around.file) at last) _ (fails_so e (read_format (card_format around.file) at last) h))

@@ -6,14 +6,14 @@ use Rattle.ds_machine.proofs.Words.{is_running, ready, channel_format_by, dma_fo
 use Rattle.ds_machine.proofs.Words.{due_with, least_running, divider_format, root_format, held_due, channel_comes_before, IsOver, kept_twice, soon}
 use Rattle.ds_machine.proofs.Words.{StandsFor, IrqState, events, irq_levelled, level, shares_bit, irq_format_by, timers_format, TimerState, timer_at}
 use Rattle.ds_machine.proofs.Words.{timer_due, GxState, gx_level, is_half_empty, is_stalled, waiting_entries, gx_format_by, holds_by, Asked}
-use Rattle.ds_machine.proofs.Words.{video_format, scan_before, VideoState, keys_due, script_from}
+use Rattle.ds_machine.proofs.Words.{video_format, scan_before, VideoState, keys_due, script_from, late_runs_by, sleeps_by}
 use Rattle.std.proofs.Common.{IfSome}
 use Rattle.ds_base.proofs.Choices.{not_lt, not_true}
 use Rattle.ds_dma.proofs.SavedLaws.{none_earlier}
-use Rattle.ds_dma.specs.Saved.{comes_by, last_must, must_run}
+use Rattle.ds_dma.specs.Saved.{asked_last, comes_by}
 use Rattle.ds_math.specs.Dividers.{DividerState}
 use Rattle.ds_math.specs.Roots.{RootState}
-use Rattle.ds_timers.specs.Saved.{anchor_number, anchors_by, numbered_anchor, sleeps_by, timer_format}
+use Rattle.ds_timers.specs.Saved.{anchor_number, anchors_by, numbered_anchor, timer_format}
 use Rattle.ds_timers.specs.Timing.{full, pace, runs_free}
 use Rattle.gx_geometry.specs.Saved.{geometry_format}
 use Rattle.gx_geometry.specs.States.{GeometryState}
@@ -86,11 +86,11 @@ unfolding video_format
 scan_again at v stands = sym (ap (λ (w : VideoState). w.scan) stands.1)
 
 -- geometry
-pub gx_from : (asked : Asked) (at : ℕ) (gx : GxState) → StandsFor (gx_format_by asked) at gx → IsDueFrom at gx.due
+pub gx_from : (asked : ℕ → ℕ → Bool) (at : ℕ) (gx : GxState) → StandsFor (gx_format_by asked) at gx → IsDueFrom at gx.due
 unfolding gx_format_by
 gx_from asked at gx stands = soon_from at gx.due stands.0.1.2.2.2.2.2.2.1
 
-pub gx_holds : (asked : Asked) (at : ℕ) (gx : GxState) → StandsFor (gx_format_by asked) at gx → holds_by asked gx.selector (waiting_entries gx) ≡ true
+pub gx_holds : (asked : ℕ → ℕ → Bool) (at : ℕ) (gx : GxState) → StandsFor (gx_format_by asked) at gx → asked gx.selector (waiting_entries gx) ≡ true
 unfolding gx_format_by
 gx_holds asked at gx stands = (both _ _ stands.0.1.2.2.1).0
 
@@ -98,7 +98,7 @@ geometry_run : (at : ℕ) (g : GeometryState) → StandsFor geometry_format at g
 unfolding geometry_format
 geometry_run at g stands = le_of g.numbers.run at stands.0.1.2.2.2.2.2.2.2.2.2.2.2.2.2.2.2.2.2.2.2.2.2.1.1.1.1.2.1
 
-pub gx_run : (asked : Asked) (at : ℕ) (gx : GxState) → StandsFor (gx_format_by asked) at gx → gx.geometry.numbers.run ≤ at
+pub gx_run : (asked : ℕ → ℕ → Bool) (at : ℕ) (gx : GxState) → StandsFor (gx_format_by asked) at gx → gx.geometry.numbers.run ≤ at
 unfolding gx_format_by
 gx_run asked at gx stands = geometry_run at gx.geometry stands.0.0
 
@@ -133,9 +133,9 @@ nine_channel at gx dma released is which =
     (held_from (is_stalled gx) at (least_running dma.channels) (ready dma.last (channel_at dma.channels (least_running dma.channels)))))
 
 -- ARM7's
-comes_again : (late : Bool) (at : ℕ) (dma : DmaState) → StandsFor (dma_format_by Seven late) at dma → comes_by Seven at (dma_due dma) ≡ true
+comes_again : (asked : Bool → Bool) (at : ℕ) (dma : DmaState) → StandsFor (dma_format_by Seven asked) at dma → comes_by Seven at (dma_due dma) ≡ true
 unfolding dma_format_by
-comes_again late at dma stands = subst (λ (d : DmaState). comes_by Seven at (dma_due d) ≡ true) stands.1 (both _ _ stands.0.1.1.1.1.2.1).0
+comes_again asked at dma stands = subst (λ (d : DmaState). comes_by Seven at (dma_due d) ≡ true) stands.1 (both _ _ stands.0.1.1.1.1.2.1).0
 
 not_before : (at least : ℕ) (r : Option Tick) → IfSome (due_with least r) (λ due. at ≤ due.tick.0) → IsDueFrom at (held_due false 0 r)
 not_before at least None h = tt
@@ -145,29 +145,25 @@ unheld : (at : ℕ) (r : Option Tick) → IsDueFrom at (held_due false 0 r) → 
 unheld at None h = tt
 unheld at (Some t) h = omega (arith, h)
 
-pub seven_channel : (late : Bool) (at : ℕ) (dma : DmaState) → StandsFor (dma_format_by Seven late) at dma → (which : ℕ) → IsDueFrom at (channel_due dma which)
-seven_channel late at dma stands which =
+pub seven_channel : (asked : Bool → Bool) (at : ℕ) (dma : DmaState) → StandsFor (dma_format_by Seven asked) at dma → (which : ℕ)
+    → IsDueFrom at (channel_due dma which)
+seven_channel asked at dma stands which =
     unheld at (channel_due dma which)
     (of_channel false at 0 dma which
     (not_before at (least_running dma.channels) (ready dma.last (channel_at dma.channels (least_running dma.channels)))
-    (none_earlier Seven at (dma_due dma) (comes_again late at dma stands) refl)))
+    (none_earlier Seven at (dma_due dma) (comes_again asked at dma stands) refl)))
 
-some_runs : (a b c d : Bool) → must_run (true && not (a || b || c)) d ≡ true → (a || b || c || d) ≡ true
-some_runs true b c d h = refl
-some_runs false true c d h = refl
-some_runs false false true d h = refl
-some_runs false false false d h = h
-
-channel_runs : (must : Bool) (at : ℕ) (c : Channel) → StandsFor (channel_format_by Seven 3 must) at c → must_run must (is_running c) ≡ true
+channel_runs : (asked : Bool → Bool) (at : ℕ) (c : Channel) → StandsFor (channel_format_by Seven 3 asked) at c → asked (is_running c) ≡ true
 unfolding channel_format_by
-channel_runs must at c stands = (both _ _ stands.0.2.2.2.2.2.2.2.1).0
+channel_runs asked at c stands = (both _ _ stands.0.2.2.2.2.2.2.2.1).0
 
-pub late_runs : (late : Bool) (at : ℕ) (dma : DmaState) → StandsFor (dma_format_by Seven late) at dma → late ≡ true → any_runs dma.channels ≡ true
+pub late_runs : (late : Bool) (at : ℕ) (dma : DmaState) → StandsFor (dma_format_by Seven (late_runs_by late)) at dma → late ≡ true
+    → any_runs dma.channels ≡ true
 unfolding dma_format_by
 late_runs late at dma stands is =
-    let must = channel_runs (last_must late (channel_at dma.channels 0) (channel_at dma.channels 1) (channel_at dma.channels 2)) at (channel_at dma.channels 3) stands.0.1.1.1.0 in
-    some_runs (is_running (channel_at dma.channels 0)) (is_running (channel_at dma.channels 1)) (is_running (channel_at dma.channels 2)) (is_running (channel_at dma.channels 3))
-    (subst (λ (b : Bool). must_run (b && not (is_running (channel_at dma.channels 0) || is_running (channel_at dma.channels 1) || is_running (channel_at dma.channels 2))) (is_running (channel_at dma.channels 3)) ≡ true) is must)
+    let before = is_running (channel_at dma.channels 0) || is_running (channel_at dma.channels 1) || is_running (channel_at dma.channels 2) in
+    subst (λ (b : Bool). late_runs_by b (any_runs dma.channels) ≡ true) is
+    (channel_runs (asked_last (late_runs_by late) before) at (channel_at dma.channels 3) stands.0.1.1.1.0)
 
 -- the processors
 pub own_from : (halted runs : Bool) (at due : ℕ) → ((not halted && nat_lt due at) ≡ true → runs ≡ true) → IsDueFrom at (if (halted || runs) then None else Some (record { 0 = due }))
@@ -190,14 +186,6 @@ own_from_nine false false false at due held = by_late (nat_lt due at) refl where
 
 -- ---- interrupts: no halted processor is to wake, and ARM9's FIFO's bit is told as it is
 
-if_both : (a : Bool) (x : Bool) → (if a then x else true) ≡ true → a ≡ true → x ≡ true
-if_both true x h e = h
-if_both false x h e = absurd (true≢false (sym e))
-
-never_so : (a : Bool) → (if a then false else true) ≡ true → a ≡ false
-never_so true h = absurd (true≢false (sym h))
-never_so false h = refl
-
 -- what was asked of geometry's entries
 pub record Answers (asked : Asked) (selector waiting : ℕ) (low stalls half : Bool) : Type 0 where
   pub wakes : asked.wakes ≡ false
@@ -205,17 +193,17 @@ pub record Answers (asked : Asked) (selector waiting : ℕ) (low stalls half : B
   pub late : asked.late ≡ true → stalls ≡ true
   pub waits : asked.waits ≡ true → half ≡ false
 
-pub answered : (asked : Asked) (at : ℕ) (gx : GxState) → StandsFor (gx_format_by asked) at gx
+pub answered : (asked : Asked) (at : ℕ) (gx : GxState) → StandsFor (gx_format_by (holds_by asked)) at gx
     → Answers asked gx.selector (waiting_entries gx) (gx_level gx) (is_stalled gx) (is_half_empty gx)
 answered asked at gx stands =
-    let one = both _ _ (gx_holds asked at gx stands) in
-    let two = both _ _ one.1 in
-    let three = both _ _ two.1 in
+    let three = both _ _ (gx_holds (holds_by asked) at gx stands) in
+    let two = both _ _ three.0 in
+    let one = both _ _ two.0 in
     record {
-      wakes = never_so asked.wakes one.0;
-      hears = λ e. not_true (gx_level gx) (if_both asked.hears (not (gx_level gx)) two.0 e);
-      late = λ e. if_both asked.late (is_stalled gx) three.0 e;
-      waits = λ e. not_true (is_half_empty gx) (if_both asked.waits (not (is_half_empty gx)) three.1 e);
+      wakes = not_true asked.wakes one.0;
+      hears = λ e. not_true (gx_level gx) (subst (λ (b : Bool). not (b && gx_level gx) ≡ true) e one.1);
+      late = λ e. subst (λ (b : Bool). (not b || is_stalled gx) ≡ true) e two.1;
+      waits = λ e. not_true (is_half_empty gx) (subst (λ (b : Bool). not (b && is_half_empty gx) ≡ true) e three.1);
     }
 
 or_zero : (a x y : ℕ) → bit_and a x ≡ 0 → bit_and a y ≡ 0 → bit_and a (bit_or x y) ≡ 0
@@ -250,12 +238,8 @@ nine_asleep true true i low apart hears = by_bit (not (bit_and i.ie level == 0))
   by_bit false e = shares_none i.ie (bit_or i.if_ level) (or_zero i.ie i.if_ level (none_shared i.ie i.if_ apart) (none_shared i.ie level e))
 
 -- ARM7
-sleeps_so : (halted : Bool) (ie flags : ℕ) → sleeps_by halted ie flags ≡ true → (halted && not (bit_and ie flags == 0)) ≡ false
-sleeps_so false ie flags h = refl
-sleeps_so true ie flags h = shares_none ie flags (equal (bit_and ie flags) 0 h)
-
-pub seven_asleep : (halted : Bool) (at : ℕ) (i : IrqState) → StandsFor (irq_format_by Seven halted) at i → (halted && shares_bit i) ≡ false
+pub seven_asleep : (halted : Bool) (at : ℕ) (i : IrqState) → StandsFor (irq_format_by Seven (sleeps_by halted)) at i → (halted && shares_bit i) ≡ false
 unfolding irq_format_by
 seven_asleep halted at i stands =
     ap (λ (n : ℕ). halted && not (bit_and i.ie n == 0)) (sym (ap (λ (j : IrqState). j.if_) stands.1))
-    ∙ sleeps_so halted i.ie (events i.if_) (both _ _ stands.0.2.2.1).0
+    ∙ not_true (halted && not (bit_and i.ie (events i.if_) == 0)) (both _ _ stands.0.2.2.1).0

@@ -98,6 +98,7 @@ pub use Rattle.ds_dma.proofs.Wholes.{awaits_none}
 pub use Rattle.ds_dma.specs.declared.channels.Channel.{Channel}
 pub use Rattle.ds_dma.specs.Channels.{is_running, ready, ready_by}
 pub use Rattle.ds_dma.specs.Controls.{is_enabled}
+pub use Rattle.ds_dma.specs.Saved.{dma_format, late_runs_by}
 unfoldable pub use Rattle.ds_dma.specs.Saved.{channel_format_by, dma_format_by}
 pub use Rattle.ds_dma.specs.States.{DmaState, any_runs, awaits_geometry, channel_at, channel_due, dma_due, due_with, last_tick, least_running}
 pub use Rattle.ds_dma.specs.declared.channels.LastUnit.{LastUnit}
@@ -165,6 +166,7 @@ pub use Rattle.ds_state.proofs.Standing.{StandsFor}
 pub use Rattle.ds_state.specs.Formats.{bytes_written, soon, word_format}
 pub use Rattle.ds_state.specs.Reading.{ReadAnswer, read_format, ◌>>=◌}
 pub use Rattle.ds_timers.specs.Irqs.{IrqState, IsIrq, events, irq_levelled, level, line_is_up, shares_bit}
+pub use Rattle.ds_timers.specs.Saved.{irq_format, sleeps_by}
 unfoldable pub use Rattle.ds_timers.specs.Saved.{irq_format_by, timers_format}
 pub use Rattle.ds_timers.specs.declared.timers.Timer.{Timer as TimerState}
 pub use Rattle.ds_timers.specs.Timing.{timer_at, timer_due}

@@ -19,8 +19,7 @@ use Rattle.ds_state.specs.Formats.{word_format, signed_format}
 use Rattle.ds_timers.specs.Saved.{irq_format_by, timer_format, timers_format}
 use Rattle.ds_base.specs.declared.keys.KeyLine.{KeyLine}
 use Rattle.ds_machine.specs.Saved.{machine_format, saved_size}
-use Rattle.gx_fifo.specs.Saved.{count_by, entry_format, gx_format_by, holds_by}
-use Rattle.gx_fifo.specs.declared.gx.saved.Asked.{Asked}
+use Rattle.gx_fifo.specs.Saved.{count_by, entry_format, gx_format_by}
 use Rattle.gx_geometry.specs.Saved.{geometry_format, holds_recent, light_format, lists_format, polygon_format, unless_none, vertex_format}
 use Rattle.gx_geometry.specs.Bounds.{is_place}
 use Rattle.gx_matrix.specs.Saved.{matrix_format, stacks_format}
@@ -47,8 +46,8 @@ swapped_few tick n greatest at kept = most n greatest (and_parts (nat_le n great
 open_few : (first second third at n : ℕ) → holds_recent first second third at n ≡ true → n ≤ 6144
 open_few first second third at n kept = most n 6144 (and_parts (nat_le n 6144) (is_place n first && (is_place n second && is_place n third)) kept).0
 
-entries_few : (asked : Asked) (selector at n : ℕ) → count_by asked selector at n ≡ true → n ≤ 324
-entries_few asked selector at n kept = most n 324 (and_parts (holds_by asked selector n) (nat_le n 324) kept).1
+entries_few : (asked : ℕ → ℕ → Bool) (selector at n : ℕ) → count_by asked selector at n ≡ true → n ≤ 324
+entries_few asked selector at n kept = most n 324 (and_parts (asked selector n) (nat_le n 324) kept).1
 
 module _ (at : ℕ) where
   few_word : ReadsFew at 4 0 word_format
@@ -73,9 +72,9 @@ module _ (at : ℕ) where
   unfolding polygon_format
   few_polygon = search rules
 
-  few_irq : (proc : Proc) (asleep : Bool) → ReadsFew at 9 0 (irq_format_by proc asleep)
+  few_irq : (proc : Proc) (asked : ℕ → ℕ → Bool) → ReadsFew at 9 0 (irq_format_by proc asked)
   unfolding irq_format_by
-  few_irq proc asleep = search rules
+  few_irq proc asked = search rules
 
   few_timer : (which : ℕ) → ReadsFew at 13 0 (timer_format which)
   unfolding timer_format
@@ -101,14 +100,15 @@ module _ (at : ℕ) where
   unfolding ipc_format
   few_ipc = (73, few_side) ⨾ λ nine. (73, few_side) ⨾ λ seven. omega arith
 
-  few_channel : (proc : Proc) (which : ℕ) (must : Bool) → ReadsFew at 37 0 (channel_format_by proc which must)
+  few_channel : (proc : Proc) (which : ℕ) (asked : Bool → Bool) → ReadsFew at 37 0 (channel_format_by proc which asked)
   unfolding channel_format_by
-  few_channel proc which must = search rules
+  few_channel proc which asked = search rules
 
-  few_dma : (proc : Proc) (late : Bool) → ReadsFew at 160 0 (dma_format_by proc late)
+  few_dma : (proc : Proc) (asked : Bool → Bool) → ReadsFew at 160 0 (dma_format_by proc asked)
   unfolding dma_format_by
-  few_dma proc late =
-      (37, few_channel proc 0 false) ⨾ λ zero. (37, few_channel proc 1 false) ⨾ λ one. (37, few_channel proc 2 false) ⨾ λ two. (37, few_channel proc 3 _) ⨾ λ three. search rules
+  few_dma proc asked =
+      (37, few_channel proc 0 _) ⨾ λ zero. (37, few_channel proc 1 _) ⨾ λ one. (37, few_channel proc 2 _) ⨾ λ two. (37, few_channel proc 3 _) ⨾ λ three.
+      search rules
 
   few_card : (file : List ℕ) → ReadsFew at 29 0 (card_format file)
   unfolding card_format
@@ -188,7 +188,7 @@ module _ (at : ℕ) where
   unfolding entry_format
   few_entry = search rules
 
-  few_gx : (asked : Asked) → ReadsFew at 379032 0 (gx_format_by asked)
+  few_gx : (asked : ℕ → ℕ → Bool) → ReadsFew at 379032 0 (gx_format_by asked)
   unfolding gx_format_by
   few_gx asked = (377393, few_geometry) ⨾ λ geometry display _ selector _ count kept. (let le = entries_few asked selector at count kept in
       (5, few_entry) ⨾ λ entries packed _ left _ due _ waits _. omega (arith, le))
@@ -203,9 +203,9 @@ few_machine : (file : List ℕ) (keys : List KeyLine) (nine seven events at : �
 unfolding machine_format saved_size
 few_machine file keys steps_of_nine steps_of_seven events at =
     (148, few_registers at V5) ⨾ λ registers₉ halted₉ _ due₉ _. (148, few_registers at V4) ⨾ λ registers₇ halted₇ _ due₇ _. (12, few_cp15 at) ⨾ λ cp15 main _ shared _ wram _ itcm _ dtcm _ palette _.
-    (671753, few_banks at) ⨾ λ vram oam _ wramcnt _. (9, few_irq at Nine false) ⨾ λ irq₉. (9, few_irq at Seven _) ⨾ λ irq₇. (52, few_timers at) ⨾ λ timers₉.
+    (671753, few_banks at) ⨾ λ vram oam _ wramcnt _. (9, few_irq at Nine _) ⨾ λ irq₉. (9, few_irq at Seven _) ⨾ λ irq₇. (52, few_timers at) ⨾ λ timers₉.
     (52, few_timers at) ⨾ λ timers₇. (41, few_divider at) ⨾ λ divider. (21, few_root at) ⨾ λ root. (146, few_ipc at) ⨾ λ ipc pressed _ keycnt₉ _ keycnt₇ _.
-    (160, few_dma at Nine false) ⨾ λ dma₉. (160, few_dma at Seven _) ⨾ λ dma₇. (4, few_word at) ⨾ λ fill. (393705, few_video at) ⨾ λ video.
+    (160, few_dma at Nine _) ⨾ λ dma₉. (160, few_dma at Seven _) ⨾ λ dma₇. (4, few_word at) ⨾ λ fill. (393705, few_video at) ⨾ λ video.
     (379032, few_gx at _) ⨾ λ gx. (29, few_card at file) ⨾ λ card. omega arith
 
 few_head : (digest : List ℕ) (limit : ℕ) → ReadsFew limit 74 0 (head_format digest)

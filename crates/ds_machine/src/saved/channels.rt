@@ -37,7 +37,7 @@ impl SavedChannels {
         requires { IsEarly (Some at) }
         ensures { GivesRead (λ c. c) result from.new (read_format (channels_format late) at.0 from.old) }
     {
-        let nine = Dma::unpack_by(from, at, Proc::Nine, false)?;
+        let nine = Dma::unpack(from, at, Proc::Nine)?;
         let seven = Dma::unpack_by(from, at, Proc::Seven, late)?;
         let mut fill = [0; 4];
         take_each(from, &mut fill, at.0)?;

@@ -73,7 +73,7 @@ impl SavedUnits {
         ensures { GivesIn (λ u. u) result from.new (read_format (units_format halted) at.0 from.old) }
     {
         let wramcnt = from.take_at_most(3)?;
-        let irq_of_nine = Irq::unpack_by(from, at, Proc::Nine, false)?;
+        let irq_of_nine = Irq::unpack(from, at, Proc::Nine)?;
         let irq_of_seven = Irq::unpack_by(from, at, Proc::Seven, halted)?;
         let timers_of_nine = Timers::unpack(from, at)?;
         let timers_of_seven = Timers::unpack(from, at)?;

@@ -1,4 +1,4 @@
-use Rattle.std.specs.Prelude.{ℕ, ◌<◌, ◌≤◌, ◌+◌, ◌*◌, ◌^◌, ◌==◌, ◌&&◌, ◌||◌, not, if◌then◌else◌, Bool, true, false, List, [], ◌∷◌, ◌++◌, length, All}
+use Rattle.std.specs.Prelude.{ℕ, ◌<◌, ◌≤◌, ◌+◌, ◌*◌, ◌^◌, ◌==◌, ◌&&◌, ◌||◌, not, if◌then◌else◌, Bool, true, false, List, [], ◌∷◌, ◌++◌, length, drop, slice_index_or, All}
 use Rattle.ds_base.specs.Bits.{bit, bits, flag}
 use Rattle.ds_base.specs.Interrupts.{interrupt_bit}
 use Rattle.ds_base.specs.declared.interrupts.Interrupt.{Interrupt}
@@ -127,19 +127,10 @@ sent own word =
 abbrev pub send_raised : Side → Side → ℕ
 send_raised own other = raised_if (own.enabled && is_empty own.words && other.filled_raises) ReceiveFifoNotEmpty
 
--- the oldest word, or this one where there is none
-abbrev pub oldest_or : List ℕ → ℕ → ℕ
-oldest_or [] none = none
-oldest_or (word ∷ words) none = word
-
 -- What a receive gives (GBATEK, "IPCFIFORECV"): the oldest word of the other side's FIFO, or the one received last where that is empty, on a
 -- disabled side too.
 abbrev pub received_word : Side → Side → ℕ
-received_word own other = oldest_or other.words own.last
-
-abbrev pub all_but_oldest : List ℕ → List ℕ
-all_but_oldest [] = []
-all_but_oldest (word ∷ words) = words
+received_word own other = slice_index_or other.words 0 own.last
 
 -- A word is received: it leaves the other side's FIFO, and from an empty one the error is set; a disabled side takes nothing.
 abbrev pub received : Side → Side → Side
@@ -149,7 +140,7 @@ received own other =
     else record own { last = received_word own other })
 
 abbrev pub oldest_taken : Side → Side → Side
-oldest_taken own other = if own.enabled then record other { words = all_but_oldest other.words } else other
+oldest_taken own other = if own.enabled then record other { words = drop 1 other.words } else other
 
 -- what a receive raises on the other side: its send FIFO becomes empty, where this is its last word and it asks to be told
 abbrev pub receive_raised : Side → Side → ℕ

@@ -1,4 +1,4 @@
-use Rattle.std.specs.Prelude.{ℕ, ◌≡◌, ◌⊎◌, ◌<◌, ◌+◌, ◌-◌, ◌*◌, ◌%◌, ◌==◌, ◌&&◌, ◌||◌, not, nat_lt, if◌then◌else◌, Bool, true, false, List, length, replicate, slice_index_or, Option, Some, None, is_some}
+use Rattle.std.specs.Prelude.{ℕ, ◌≡◌, ◌⊎◌, ◌<◌, ◌+◌, ◌-◌, ◌*◌, ◌%◌, ◌==◌, ◌&&◌, ◌||◌, not, nat_lt, if◌then◌else◌, Bool, true, false, List, length, replicate, slice_index_or, Option, Some, None, is_some, option_and_then, option_map, unwrap_or}
 use Rattle.ds_base.specs.Bits.{bit}
 use Rattle.ds_base.specs.Interrupts.{interrupt_bit}
 use Rattle.ds_base.specs.Numbers.{aligned_down, is_within, number_at, value_by}
@@ -72,11 +72,8 @@ card_word file command number =
 -- ---- what is written
 
 -- a word is ready so many ticks after the start, or after the word before it was taken (our choice)
-abbrev pub word_ticks : ℕ
-word_ticks = 40
-
 abbrev pub next_word_after : Tick → NextWord
-next_word_after now = Due (record { 0 = now.0 + word_ticks })
+next_word_after now = Due (record { 0 = now.0 + 40 })
 
 -- the ports after a write. ROMCTRL and the command are let be while a transfer is busy (our choice).
 abbrev pub ports_written : CardState → Proc → ℕ → Width → ℕ → CardState
@@ -128,8 +125,7 @@ none_raised = record { nine = 0; seven = 0 }
 abbrev pub same_proc : Proc → Proc → Bool
 same_proc Nine Nine = true
 same_proc Seven Seven = true
-same_proc Nine Seven = false
-same_proc Seven Nine = false
+same_proc proc other = false
 
 -- when its event comes: where a transfer is busy and no word is ready
 abbrev pub next_due : NextWord → Option Tick
@@ -137,16 +133,10 @@ next_due (Due tick) = Some tick
 next_due (Ready word) = None
 
 abbrev pub card_due : CardState → Option Tick
-card_due s = due_of s.transfer where
-  due_of : Option Transfer → Option Tick
-  due_of None = None
-  due_of (Some t) = next_due t.next
+card_due s = option_and_then (λ (t : Transfer). next_due t.next) s.transfer
 
 abbrev pub card_starter : CardState → Option Proc
-card_starter s = starter_of s.transfer where
-  starter_of : Option Transfer → Option Proc
-  starter_of None = None
-  starter_of (Some t) = Some t.starter
+card_starter s = option_map (λ (t : Transfer). t.starter) s.transfer
 
 -- the same, of a transfer that a processor started
 abbrev pub due_if_started : Proc → Option Transfer → Option Tick
@@ -171,8 +161,7 @@ abbrev pub event_readies : CardState → Bool
 event_readies s = not (block_words s.romctrl == 0)
 
 abbrev pub ended_on : CardState → Option Transfer → Raised
-ended_on s None = none_raised
-ended_on s (Some t) = raised_at t.starter (end_interrupt s t.starter)
+ended_on s transfer = unwrap_or (option_map (λ (t : Transfer). raised_at t.starter (end_interrupt s t.starter)) transfer) none_raised
 
 abbrev pub event_raised : CardState → Raised
 event_raised s = if event_readies s then none_raised else ended_on s s.transfer
@@ -196,8 +185,7 @@ abbrev pub card_taken : CardState → Proc → ℕ → Width → Option ℕ
 card_taken s proc at width = if is_whole_word width && (aligned_down width at == data_port_at) then word_for proc s.transfer else None
 
 abbrev pub is_ready : Option Transfer → Bool
-is_ready None = false
-is_ready (Some t) = is_some (ready_word t.next)
+is_ready transfer = is_some (option_and_then (λ (t : Transfer). ready_word t.next) transfer)
 
 -- the bytes of its ports, where ROMCTRL's are these; the data port alone has none
 abbrev pub port_byte_of : List ℕ → CardState → Proc → ℕ → ℕ
@@ -215,12 +203,8 @@ card_byte s proc place = port_byte_of (shown_romctrl s.romctrl (is_ready s.trans
 abbrev pub card_kept : CardState → Proc → ℕ → Width → ℕ
 card_kept s proc at width = value_by width (port_byte_of s.romctrl s proc) (aligned_down width at)
 
-abbrev pub value_or : Option ℕ → ℕ → ℕ
-value_or None shown = shown
-value_or (Some word) shown = word
-
 abbrev pub card_value : CardState → Proc → ℕ → Width → ℕ
-card_value s proc at width = value_or (card_taken s proc at width) (value_by width (card_byte s proc) (aligned_down width at))
+card_value s proc at width = unwrap_or (card_taken s proc at width) (value_by width (card_byte s proc) (aligned_down width at))
 
 -- a word is taken: the next one is on its way, or the transfer ends with the last
 abbrev pub is_last_word : CardState → ℕ → Bool
@@ -237,7 +221,7 @@ card_after_read s proc at width now = if is_some (card_taken s proc at width) th
 
 abbrev pub last_raised : CardState → Option Transfer → Raised
 last_raised s None = none_raised
-last_raised s (Some t) = if is_last_word s t.taken then raised_at t.starter (end_interrupt s t.starter) else none_raised
+last_raised s (Some t) = if is_last_word s t.taken then ended_on s (Some t) else none_raised
 
 abbrev pub read_raised : CardState → Proc → ℕ → Width → Raised
 read_raised s proc at width = if is_some (card_taken s proc at width) then last_raised s s.transfer else none_raised

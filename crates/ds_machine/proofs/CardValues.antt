@@ -3,8 +3,9 @@ use Rattle.ds_machine.proofs.Words.{none-some, le_of, aligned_down, width_bytes,
 use Rattle.ds_machine.proofs.Words.{tcm_of, Tcm, Itcm, Dtcm, Past, map_value, value_at, MapState, NineReach, tcm_value, place_of, Place, IoState}
 use Rattle.ds_machine.proofs.Words.{whole_if, whole_in, slot_of, meaning_of, Register, CardData, Slot, map_word, place_word, register_word, slot_word}
 use Rattle.ds_machine.proofs.Words.{tcm_word}
+use Rattle.std.specs.Prelude.{unwrap_or}
 use Rattle.ds_base.specs.Numbers.{value_by}
-use Rattle.ds_card.specs.Cards.{card_byte, value_or}
+use Rattle.ds_card.specs.Cards.{card_byte}
 use Rattle.ds_places.specs.declared.kinds.Place.TheVariants as place
 use Rattle.ds_ports.specs.Ports.{part, port_half, port_value, read_or}
 use Rattle.ds_ports.specs.RegisterMap.{IsSlot}
@@ -16,7 +17,7 @@ use Rattle.ds_machine.specs.CardSteps.{LoadsGiveWords, ReadsGiveWords}
 module _ (proc : Proc) (now : Tick) (u : IoState) (word : ℕ) where
   register_gives : (register : Register) (number : ℕ) → register_word proc u.card register ≡ Some word
       → (meaning_of register).value proc now u number ≡ word
-  register_gives CardData number h = ap (λ (o : Option ℕ). value_or o (value_by Word (card_byte u.card proc) (aligned_down Word data_port_at))) h
+  register_gives CardData number h = ap (λ (o : Option ℕ). unwrap_or o (value_by Word (card_byte u.card proc) (aligned_down Word data_port_at))) h
   register_gives register number h = absurd (none-some word h)
 
   whole_number : (n : ℕ) → part Word 0 n ≡ n % 2 ^ 32

@@ -11,7 +11,7 @@ use Rattle.ds_dma.specs.declared.controls.DmaPort.{DmaPort}
 use Rattle.ds_dma.specs.declared.controls.DmaPort.TheVariants.{Source, Target, Control}
 use Rattle.ds_dma.specs.Controls.{most_burst, kept_channel_control, channel_control_mask, greatest_count, units_counted, is_enabled, disabled, is_armed_again, waits_for, burst_of, latches_again}
 use Rattle.ds_dma.specs.declared.channels.Channel.{Channel}
-use Rattle.ds_dma.specs.Channels.{IsChannel, is_running, latched, emptied, channel_controlled, channel_set, is_triggered, triggered, next_to, after_unit, is_last_unit, is_last_of_burst, rest_of}
+use Rattle.ds_dma.specs.Channels.{IsChannel, is_running, latched, emptied, channel_controlled, channel_set, is_triggered, triggered, unit_of, after_unit, is_last_unit, is_last_of_burst, rest_of}
 
 -- the bits that are kept are kept again
 pub kept_twice : (proc : Proc) (which value : ℕ) → kept_channel_control proc which (kept_channel_control proc which value) ≡ kept_channel_control proc which value
@@ -196,7 +196,7 @@ taken_is proc which c is on =
       dad = is.dad;
       cnt = is.cnt;
       from = modulo_below _;
-      to = chosen_below (latches_again c.cnt) c.dad (next_to c) (wider c.dad is.dad) (modulo_below _);
+      to = chosen_below (latches_again c.cnt) c.dad (unit_of c 1).to (wider c.dad is.dad) (modulo_below _);
       remaining = units_within proc which c.cnt;
       some = λ g. units_some proc which c.cnt;
       burst = omega arith;

@@ -7,7 +7,7 @@ use Rattle.ds_base.proofs.Choices.{either_by, not_false, not_true, equal, unequa
 use Rattle.ds_dma.specs.declared.channels.Unit.{Unit as DmaUnit}
 use Rattle.ds_dma.specs.Controls.{disabled, is_armed_again}
 use Rattle.ds_dma.specs.declared.channels.Channel.{Channel}
-use Rattle.ds_dma.specs.Channels.{plan_of, unit_of, address_of, source_step, target_step, next_from, next_to, emptied, rest_of, TakesUnit, more_units, pauses, again, ends, after_unit, is_last_unit, is_last_of_burst}
+use Rattle.ds_dma.specs.Channels.{plan_of, unit_of, address_of, source_step, target_step, emptied, rest_of, TakesUnit, more_units, pauses, again, ends, after_unit, is_last_unit, is_last_of_burst}
 
 -- the address of the unit after this one, from the first and from the second
 shifted : (first step i : ℕ) → address_of first step (i + 1) ≡ address_of (address_of first step 1) step i
@@ -18,7 +18,7 @@ shifted first step i =
 unit_shifted : (c : Channel) (i : ℕ) → unit_of c (i + 1) ≡ unit_of (rest_of c) i
 unit_shifted c i =
     ap (λ n. record { from = n; to = address_of c.to (target_step c) (i + 1); width = (unit_of c 0).width }) (shifted c.from (source_step c) i)
-    ∙ ap (λ n. record { from = address_of (next_from c) (source_step c) i; to = n; width = (unit_of c 0).width }) (shifted c.to (target_step c) i)
+    ∙ ap (λ n. record { from = address_of (unit_of c 1).from (source_step c) i; to = n; width = (unit_of c 0).width }) (shifted c.to (target_step c) i)
 
 mapped : (f g : ℕ → DmaUnit) → ((i : ℕ) → f (i + 1) ≡ g i) → (a n : ℕ) → map f (range_with_len (a + 1) n) ≡ map g (range_with_len a n)
 mapped f g h a zero = refl
@@ -46,10 +46,10 @@ below : (n : ℕ) → n % 2 ^ 32 < 2 ^ 32
 below n = omega arith
 
 -- the rest's first unit lies where the rest stands
-next_is : (c : Channel) → (next_from c ≡ (unit_of (rest_of c) 0).from) × (next_to c ≡ (unit_of (rest_of c) 0).to)
+next_is : (c : Channel) → ((unit_of c 1).from ≡ (unit_of (rest_of c) 0).from) × ((unit_of c 1).to ≡ (unit_of (rest_of c) 0).to)
 next_is c = (
-  sym (there (next_from c) (source_step c) (below (c.from + source_step c * 1))),
-  sym (there (next_to c) (target_step c) (below (c.to + target_step c * 1))),
+  sym (there (unit_of c 1).from (source_step c) (below (c.from + source_step c * 1))),
+  sym (there (unit_of c 1).to (target_step c) (below (c.to + target_step c * 1))),
 )
 
 took_more : (proc : Proc) (which : ℕ) (c : Channel) → 2 ≤ c.remaining → TakesUnit proc which c (if is_last_of_burst c then record (rest_of c) { trigger = None } else rest_of c)
@@ -61,11 +61,11 @@ took_more proc which c h =
     let is = next_is c in
     either_by (TakesUnit proc which c) (is_last_of_burst c) (record rest { trigger = None }) rest
     (λ e. (let one = equal c.burst 1 e in pauses (unit_of c 0) (unit_of rest 0) (plan_of (rest_of rest)) all splits one
-    (ap (λ n. record c { from = n; to = next_to c; remaining = c.remaining - 1; trigger = None; burst = c.burst - 1 }) is.0
+    (ap (λ n. record c { from = n; to = (unit_of c 1).to; remaining = c.remaining - 1; trigger = None; burst = c.burst - 1 }) is.0
     ∙ ap (λ n. record c { from = (unit_of rest 0).from; to = n; remaining = c.remaining - 1; trigger = None; burst = c.burst - 1 }) is.1
     ∙ ap (λ n. record c { from = (unit_of rest 0).from; to = (unit_of rest 0).to; remaining = c.remaining - 1; trigger = None; burst = n - 1 }) one)))
     (λ e. more_units (unit_of c 0) (unit_of rest 0) (plan_of (rest_of rest)) all splits (unequal c.burst 1 e)
-    (ap (λ n. record c { from = n; to = next_to c; remaining = c.remaining - 1; burst = c.burst - 1 }) is.0
+    (ap (λ n. record c { from = n; to = (unit_of c 1).to; remaining = c.remaining - 1; burst = c.burst - 1 }) is.0
     ∙ ap (λ n. record c { from = (unit_of rest 0).from; to = n; remaining = c.remaining - 1; burst = c.burst - 1 }) is.1))
 
 only_one : (c : Channel) → c.remaining ≡ 1 → plan_of c ≡ unit_of c 0 ∷ []

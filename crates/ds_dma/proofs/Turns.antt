@@ -1,5 +1,5 @@
 use Rattle.std.proofs.Common.{ℕ, ◌≡◌, ◌<◌, ◌≤◌, ◌+◌, inl, inr, List, map, slice_set, refl, sym, ◌∙◌, subst, ap, arith, Bool, true, false, Option, Some, None}
-use Rattle.std.specs.Prelude.{◌==◌, if◌then◌else◌, is_some, IsSome}
+use Rattle.std.specs.Prelude.{◌==◌, if◌then◌else◌, is_some, option_map, IsSome}
 use Rattle.std.proofs.Math.Nat.{le-max_left, le-max_right}
 use Rattle.ds_base.specs.Schedules.{IsLater, Reschedules}
 use Rattle.ds_base.specs.declared.processors.Proc.{Proc}
@@ -11,18 +11,19 @@ use Rattle.ds_dma.specs.declared.controls.DmaPort.{DmaPort}
 use Rattle.ds_dma.specs.declared.controls.DmaPort.TheVariants.{Source, Target, Control}
 use Rattle.ds_dma.specs.Controls.{kept_channel_control, is_enabled, starts_immediately}
 use Rattle.ds_dma.specs.declared.channels.Channel.{Channel}
-use Rattle.ds_dma.specs.Channels.{is_running, channel_controlled, channel_set, is_triggered, triggered, ready, ready_by}
+use Rattle.ds_dma.specs.Channels.{is_running, channel_controlled, channel_set, is_triggered, triggered, ready, after_both}
 use Rattle.ds_dma.specs.States.{DmaState, IsDma, AreReadyLater, channel_at, dma_triggered, least_running, channel_due, due_with, dma_due, due_channel, dma_finished}
 use Rattle.ds_dma.proofs.Kept.{runs_on}
 use Rattle.ds_dma.proofs.Fours.{set_holds, at_mapped}
 
 -- a channel that is triggered at a tick is ready later
-triggered_later : (last : Option LastUnit) (now : Tick) → IsLater now (ready_by last (Some now))
+triggered_later : (last : Option LastUnit) (now : Tick) → IsLater now (option_map (after_both last) (Some now))
 triggered_later None now = omega arith
 triggered_later (Some last) now = omega (arith, le-max_left now.0 (last.tick.0 + last.waits))
 
 -- after a unit at a tick each channel is ready later
-pub later_after_unit : (now : Tick) (waits : ℕ) (trigger : Option Tick) → IsLater now (ready_by (Some (record { tick = now; waits = waits })) trigger)
+pub later_after_unit : (now : Tick) (waits : ℕ) (trigger : Option Tick)
+    → IsLater now (option_map (after_both (Some (record { tick = now; waits = waits }))) trigger)
 later_after_unit now waits None = tt
 later_after_unit now waits (Some trigger) = omega (arith, le-max_right trigger.0 (now.0 + waits))
 
@@ -41,7 +42,8 @@ controlled_later proc which c control now last h =
     let P : Channel → Type 0 = λ x. IsLater now (ready last x) in
     either_by P (is_enabled control) _ _
     (λ on. either_by P (is_enabled c.cnt) _ _ (λ was. h)
-    (λ was. either_by (λ o. IsLater now (ready_by last o)) (starts_immediately proc control) _ _ (λ e. triggered_later last now) (λ e. tt)))
+    (λ was. either_by (λ o. IsLater now (option_map (after_both last) o)) (starts_immediately proc control) _ _
+    (λ e. triggered_later last now) (λ e. tt)))
     (λ off. tt)
 
 set_later : (proc : Proc) (which : ℕ) (port : DmaPort) (value : ℕ) (now : Tick) (c : Channel) (last : Option LastUnit) → IsLater now (ready last c)
@@ -130,7 +132,8 @@ least_below channels =
     (λ e. either_by P (is_running (channel_at channels 1)) _ _ (λ f. omega arith)
     (λ f. either_by P (is_running (channel_at channels 2)) _ _ (λ g. omega arith) (λ g. omega arith)))
 
-due_runs : (which : ℕ) (last : Option LastUnit) (trigger : Option Tick) → IsSome (due_with which (ready_by last trigger)) → is_some trigger ≡ true
+due_runs : (which : ℕ) (last : Option LastUnit) (trigger : Option Tick)
+    → IsSome (due_with which (option_map (after_both last) trigger)) → is_some trigger ≡ true
 due_runs which last None h = never false h refl
 due_runs which last (Some trigger) h = refl
 

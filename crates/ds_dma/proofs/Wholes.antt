@@ -1,5 +1,5 @@
 use Rattle.std.proofs.Common.{ℕ, ◌≡◌, ◌<◌, ◌≤◌, [], ◌∷◌, length, map, refl, sym, ◌∙◌, ap, arith, Bool, true, false, Option, Some, None}
-use Rattle.std.specs.Prelude.{◌||◌, ◌&&◌, IsSome}
+use Rattle.std.specs.Prelude.{◌||◌, ◌&&◌, IsSome, is_some, if◌then◌else◌}
 use Rattle.ds_base.specs.declared.left_out.Stop.{Stop}
 use Rattle.ds_base.specs.declared.processors.Proc.{Proc}
 use Rattle.ds_base.specs.declared.ticks.Tick.{Tick}
@@ -10,14 +10,14 @@ use Rattle.ds_dma.specs.declared.controls.DmaPort.{DmaPort}
 use Rattle.ds_dma.specs.Controls.{is_enabled, waits_for}
 use Rattle.ds_dma.specs.declared.channels.Channel.{Channel}
 use Rattle.ds_dma.specs.Channels.{channel_refusal, channel_set, is_running, is_triggered, after_unit, triggered}
-use Rattle.ds_dma.specs.States.{DmaState, IsDma, AreReadyLater, any_runs, awaits_geometry, channel_at, channel_written, dma_due, dma_finished, dma_triggered, due_channel, least_running, most_waits, unless}
+use Rattle.ds_dma.specs.States.{DmaState, IsDma, AreReadyLater, any_runs, awaits_geometry, channel_at, channel_written, dma_due, dma_finished, dma_triggered, due_channel, least_running, most_waits}
 use Rattle.ds_dma.proofs.Fours.{are_set, at_mapped, four_are, mapped_is}
 use Rattle.ds_dma.proofs.Kept.{taken_is, triggered_is, written_is}
 use Rattle.ds_dma.proofs.Turns.{due_is_on, least_below, still_runs, written_later}
 
 -- What each call makes of all four channels.
 
-unless_holds : (P : DmaState → Type 0) (refusal : Option Stop) (old new : DmaState) → P old → (refusal ≡ None → P new) → P (unless refusal old new)
+unless_holds : (P : DmaState → Type 0) (refusal : Option Stop) (old new : DmaState) → P old → (refusal ≡ None → P new) → P (if is_some refusal then old else new)
 unless_holds P None old new h f = f refl
 unless_holds P (Some stop) old new h f = h
 

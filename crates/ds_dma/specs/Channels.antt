@@ -1,4 +1,4 @@
-use Rattle.std.specs.Prelude.{ℕ, ◌≡◌, ◌<◌, ◌≤◌, ◌+◌, ◌-◌, ◌*◌, ◌%◌, ◌^◌, ◌==◌, ◌≢◌, ◌&&◌, not, if◌then◌else◌, Bool, true, false, List, [], ◌∷◌, map, max, Option, Some, None, is_some}
+use Rattle.std.specs.Prelude.{ℕ, ◌≡◌, ◌<◌, ◌≤◌, ◌+◌, ◌-◌, ◌*◌, ◌%◌, ◌^◌, ◌==◌, ◌≢◌, ◌&&◌, not, if◌then◌else◌, Bool, true, false, List, [], ◌∷◌, map, max, Option, Some, None, is_some, option_map}
 use Rattle.std.specs.List.{range_with_len}
 use Rattle.ds_base.specs.Interrupts.{interrupt_bit}
 use Rattle.ds_base.specs.declared.processors.Proc.{Proc}
@@ -106,9 +106,8 @@ channel_set proc which Control value now c = channel_controlled proc which c (ke
 
 -- why it isn't taken
 abbrev pub channel_refusal : Proc → ℕ → DmaPort → ℕ → Channel → Option Stop
-channel_refusal proc which Source value c = None
-channel_refusal proc which Target value c = None
 channel_refusal proc which Control value c = refusal proc c.cnt (kept_channel_control proc which value)
+channel_refusal proc which port value c = None
 
 -- an event triggers a channel that is enabled with its start, for a burst where that start has bursts; one that runs stays as it is
 abbrev pub is_triggered : Proc → Cause → Channel → Bool
@@ -117,19 +116,12 @@ is_triggered proc cause c = is_enabled c.cnt && waits_for proc cause c.cnt && no
 abbrev pub triggered : Proc → Cause → Tick → Channel → Channel
 triggered proc cause now c = if is_triggered proc cause c then record c { trigger = Some now; burst = burst_of cause c.remaining } else c
 
--- the addresses of the unit after the first one
-abbrev pub next_from : Channel → ℕ
-next_from c = address_of c.from (source_step c) 1
-
-abbrev pub next_to : Channel → ℕ
-next_to c = address_of c.to (target_step c) 1
-
 -- it is armed again: with the count of its control as it stands, where its source ended, and where its target ended or as it is kept (GBATEK, "GBA
 -- DMA Transfers", DMAxCNT_H bits 5 and 6)
 abbrev pub armed_again : Proc → ℕ → Channel → Channel
 armed_again proc which c = record c {
-  from = next_from c;
-  to = if latches_again c.cnt then c.dad else next_to c;
+  from = (unit_of c 1).from;
+  to = if latches_again c.cnt then c.dad else (unit_of c 1).to;
   remaining = units_counted proc which c.cnt;
   trigger = None;
   burst = 0;
@@ -160,9 +152,9 @@ is_last_unit c = c.remaining == 1
 abbrev pub is_last_of_burst : Channel → Bool
 is_last_of_burst c = c.burst == 1
 
--- what is left of a channel but its first unit
+-- what is left of a channel but its first unit: it stands where the one after that is
 abbrev pub rest_of : Channel → Channel
-rest_of c = record c { from = next_from c; to = next_to c; remaining = c.remaining - 1; burst = c.burst - 1 }
+rest_of c = record c { from = (unit_of c 1).from; to = (unit_of c 1).to; remaining = c.remaining - 1; burst = c.burst - 1 }
 
 abbrev pub after_unit : Proc → ℕ → Channel → Channel
 after_unit proc which c =
@@ -179,9 +171,5 @@ abbrev pub after_both : Option LastUnit → Tick → Tick
 after_both None trigger = record { 0 = trigger.0 + 4 }
 after_both (Some last) trigger = record { 0 = max trigger.0 (last.tick.0 + last.waits) + 4 }
 
-abbrev pub ready_by : Option LastUnit → Option Tick → Option Tick
-ready_by last None = None
-ready_by last (Some trigger) = Some (after_both last trigger)
-
 abbrev pub ready : Option LastUnit → Channel → Option Tick
-ready last c = ready_by last c.trigger
+ready last c = option_map (after_both last) c.trigger

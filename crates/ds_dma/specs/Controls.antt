@@ -1,4 +1,4 @@
-use Rattle.std.specs.Prelude.{ℕ, ◌+◌, ◌-◌, ◌%◌, ◌^◌, ◌==◌, ◌&&◌, ◌||◌, min, not, if◌then◌else◌, Bool, false, bit_and, Option, Some, None}
+use Rattle.std.specs.Prelude.{ℕ, ◌+◌, ◌-◌, ◌%◌, ◌^◌, ◌==◌, ◌&&◌, ◌||◌, min, not, if◌then◌else◌, Bool, false, bit_and, Option, Some, None, option_map, unwrap_or}
 use Rattle.ds_base.specs.Bits.{bit, bits}
 use Rattle.ds_base.specs.declared.interrupts.Interrupt.{Interrupt}
 use Rattle.ds_base.specs.declared.interrupts.Interrupt.TheVariants.{Dma0, Dma1, Dma2, Dma3}
@@ -93,12 +93,9 @@ start_of_cause Seven VBlank = Some 1
 start_of_cause Seven Card = Some 2
 start_of_cause Seven cause = None
 
-abbrev pub starts_in_mode : Option ℕ → ℕ → Bool
-starts_in_mode None mode = false
-starts_in_mode (Some start) mode = start == mode
-
+-- a control waits for an event that triggers its start mode
 abbrev pub waits_for : Proc → Cause → ℕ → Bool
-waits_for proc cause control = starts_in_mode (start_of_cause proc cause) (start_mode proc control)
+waits_for proc cause control = unwrap_or (option_map (λ start. start == start_mode proc control) (start_of_cause proc cause)) false
 
 -- At its end a channel is armed again where it repeats, and starts neither at once nor by the geometry FIFO, which ignores the repeat bit (our
 -- choice, by GBATEK, "GBA DMA Transfers", DMAxCNT_H bit 9).

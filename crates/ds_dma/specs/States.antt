@@ -1,4 +1,4 @@
-use Rattle.std.specs.Prelude.{ℕ, ◌≡◌, ◌<◌, ◌≤◌, ◌==◌, ◌||◌, if◌then◌else◌, Bool, true, false, List, [], ◌∷◌, length, map, slice_index_or, slice_set, Option, Some, None}
+use Rattle.std.specs.Prelude.{ℕ, ◌≡◌, ◌<◌, ◌≤◌, ◌==◌, ◌||◌, if◌then◌else◌, Bool, true, false, List, [], ◌∷◌, length, map, slice_index_or, slice_set, Option, Some, None, is_some, option_map}
 use Rattle.ds_base.specs.Schedules.{IsEarly, IsLater}
 use Rattle.ds_base.specs.declared.left_out.Stop.{Stop}
 use Rattle.ds_base.specs.declared.processors.Proc.{Proc}
@@ -50,16 +50,11 @@ pub record HasEarlyTicks (s : DmaState) : Type 0 where
 abbrev pub dma_at_boot : Proc → DmaState
 dma_at_boot proc = record { proc = proc; channels = channel_at_boot ∷ channel_at_boot ∷ channel_at_boot ∷ channel_at_boot ∷ []; last = None }
 
--- where a write is refused, all stays (our choice)
-abbrev pub unless : Option Stop → DmaState → DmaState → DmaState
-unless None old new = new
-unless (Some stop) old new = old
-
--- a whole word is written to a port of a channel, at a tick
+-- a whole word is written to a port of a channel, at a tick; where that is refused, all stays (our choice)
 abbrev pub channel_written : DmaState → ℕ → DmaPort → ℕ → Tick → DmaState
 channel_written s which port value now =
-    unless (channel_refusal s.proc which port value (channel_at s.channels which)) s
-    (record s { channels = slice_set s.channels which (channel_set s.proc which port value now (channel_at s.channels which)) })
+    if is_some (channel_refusal s.proc which port value (channel_at s.channels which)) then s
+    else record s { channels = slice_set s.channels which (channel_set s.proc which port value now (channel_at s.channels which)) }
 
 -- an event at a tick triggers the channels that wait for it
 abbrev pub dma_triggered : DmaState → Cause → Tick → DmaState
@@ -96,8 +91,7 @@ channel_due s which = if which == least_running s.channels then ready s.last (ch
 
 -- what is due of the whole: that channel, and when
 abbrev pub due_with : ℕ → Option Tick → Option DmaDue
-due_with which None = None
-due_with which (Some tick) = Some (record { tick = tick; channel = which })
+due_with which due = option_map (λ (tick : Tick). (let found : DmaDue = record { tick = tick; channel = which } in found)) due
 
 abbrev pub dma_due : DmaState → Option DmaDue
 dma_due s = due_with (least_running s.channels) (ready s.last (channel_at s.channels (least_running s.channels)))

@@ -1,5 +1,5 @@
-use Rattle.ds_machine.proofs.Words.{ℕ, zero, suc, ◌≡◌, ◌<◌, ◌≤◌, inl, inr, Bool, true, false, true≢false, List, Option, Some, None, refl, sym, ◌∙◌}
-use Rattle.ds_machine.proofs.Words.{ap, subst, arith, is_some, or_parts, IsLater, Proc, Nine, Seven, Tick, ready_by, LastUnit, DmaState, any_runs}
+use Rattle.ds_machine.proofs.Words.{ℕ, zero, suc, option_map, ◌≡◌, ◌<◌, ◌≤◌, inl, inr, Bool, true, false, true≢false, List, Option, Some, None, refl, sym, ◌∙◌}
+use Rattle.ds_machine.proofs.Words.{ap, subst, arith, is_some, or_parts, IsLater, Proc, Nine, Seven, Tick, after_both, LastUnit, DmaState, any_runs}
 use Rattle.ds_machine.proofs.Words.{channel_at, io_due, HasOnlyLaterEvents, ProcessorIoState, blocks_processor, io_of, actor_of, IsLeast, due_at}
 use Rattle.ds_machine.proofs.Words.{KeyScript, Video, Timer, Divider, SquareRoot, Geometry, Card, Dma, Processor, acting_dues, IsAhead, IsBelowFence}
 use Rattle.ds_machine.proofs.Words.{rank_of, Fences, due_by, dues_of, processor_due, MachineState, is_blocked, is_halted, processor_of, tick_of}
@@ -75,7 +75,8 @@ pub acting_timers_later : (s : MachineState) (tick : Tick) (rank : ℕ) → IsLe
 acting_timers_later s tick rank least late = timers_past s (acting_dues s) tick rank least late (low_acts s)
 
 -- a channel that doesn't run is never ready
-never_ready : (now : Tick) (last : Option LastUnit) (trigger : Option Tick) → is_some trigger ≡ false → IsLater now (ready_by last trigger)
+never_ready : (now : Tick) (last : Option LastUnit) (trigger : Option Tick) → is_some trigger ≡ false
+    → IsLater now (option_map (after_both last) trigger)
 never_ready now last None h = tt
 never_ready now last (Some trigger) h = absurd (true≢false h)
 

@@ -1,6 +1,6 @@
 use Rattle.ds_machine.proofs.Words.{ℕ, ◌≡◌, ◌<◌, ◌≤◌, ◌+◌, ◌==◌, ◌^◌, nat_le, max, Bool, true, false, if◌then◌else◌, List, [], ◌∷◌, Option, Some}
-use Rattle.ds_machine.proofs.Words.{None, refl, sym, ◌∙◌, ap, subst, arith, ◌&&◌, not, le-max_right, none-some, same_Some, either, KeyLine, Proc}
-use Rattle.ds_machine.proofs.Words.{Nine, Seven, Tick, Cost, Halted, Left, ready_by, DmaState, channel_at, channel_due, last_tick, least_running}
+use Rattle.ds_machine.proofs.Words.{None, option_map, refl, sym, ◌∙◌, ap, subst, arith, ◌&&◌, not, le-max_right, none-some, same_Some, either, KeyLine, Proc}
+use Rattle.ds_machine.proofs.Words.{Nine, Seven, Tick, Cost, Halted, Left, after_both, DmaState, channel_at, channel_due, last_tick, least_running}
 use Rattle.ds_machine.proofs.Words.{LastUnit, other_proc, map_after_unit, next_unit, held_due, io_due, IoState, io_of, stall_ends, tick_after}
 use Rattle.ds_machine.proofs.Words.{video_done, IsPastBy, of_both, Stays, same_makes, Makes, KeyScript, Video, Geometry, Dma, Processor, is_stalled}
 use Rattle.ds_machine.proofs.Words.{scan_due, scan_due_tick, starts_vblank, video_stop, channel_step, one_event, past_tick, Shown, after_event}
@@ -30,14 +30,14 @@ abbrev HasTick : Option Tick → Type 0
 HasTick None = Unit {0}
 HasTick (Some tick) = 1 ≤ tick.0
 
-ready_some : (last : Option LastUnit) (trigger : Option Tick) → HasTick (ready_by last trigger)
+ready_some : (last : Option LastUnit) (trigger : Option Tick) → HasTick (option_map (after_both last) trigger)
 ready_some last None = tt
 ready_some None (Some trigger) = omega arith
 ready_some (Some last) (Some trigger) = omega arith
 
 channel_some : (dma : DmaState) (channel : ℕ) → HasTick (channel_due dma channel)
 channel_some dma channel =
-    either HasTick (channel == least_running dma.channels) (ready_by dma.last (channel_at dma.channels channel).trigger) None
+    either HasTick (channel == least_running dma.channels) (option_map (after_both dma.last) (channel_at dma.channels channel).trigger) None
     (ready_some dma.last (channel_at dma.channels channel).trigger) tt
 
 held_some : (stalled : Bool) (released : ℕ) (due : Option Tick) → HasTick due → HasTick (held_due stalled released due)

@@ -1,5 +1,5 @@
 use Rattle.ds_ports.proofs.Words.{ℕ, zero, suc, ◌≡◌, ◌<◌, ◌≤◌, ◌^◌, inl, inr, Bool, true, false, if◌then◌else◌, List, slice_set, bit_and, bit_or}
-use Rattle.ds_ports.proofs.Words.{Option, Some, None, refl, sym, ◌∙◌, ap, subst, arith, ◌&&◌, not, IsSome, bit_at, bit_not, w32, bit_at_and}
+use Rattle.ds_ports.proofs.Words.{Option, Some, None, refl, sym, ◌∙◌, ap, subst, arith, ◌&&◌, not, is_some, IsSome, bit_at, bit_not, w32, bit_at_and}
 use Rattle.ds_ports.proofs.Words.{bit_at_or, same_from_bits, either, equal, interrupt_bit, Keys, Stop, Proc, Tick, Channel, after_unit}
 use Rattle.ds_ports.proofs.Words.{is_last_of_burst, is_last_unit, is_triggered, triggered, is_armed_again, is_enabled, DmaState, IsDma, channel_at}
 use Rattle.ds_ports.proofs.Words.{dma_due, dma_finished, dma_triggered, due_channel, least_running, most_waits, Cause, DmaPort, Source, Target}
@@ -12,7 +12,7 @@ use Rattle.std.specs.Prelude.{◌==◌}
 use Rattle.ds_base.proofs.Choices.{either_by, same_or_not}
 use Rattle.ds_dma.specs.Channels.{channel_refusal, channel_set}
 use Rattle.ds_dma.specs.Controls.{kept_channel_control, starts_immediately}
-use Rattle.ds_dma.specs.States.{channel_written, unless}
+use Rattle.ds_dma.specs.States.{channel_written}
 use Rattle.ds_dma.proofs.Fours.{at_mapped, set_holds}
 use Rattle.ds_dma.proofs.Turns.{least_below}
 use Rattle.ds_timers.specs.Irqs.{interrupts_of}
@@ -122,11 +122,12 @@ module _ (limit : ℕ) where
       (λ on. either_by HasTrigger (is_enabled c.cnt) _ _ (λ e. was) (λ e. anchored_where (starts_immediately proc control) now le))
       (λ off. tt)
 
-  unless_within : (refusal : Option Stop) (old new : DmaState) → ChannelsAreBy limit old → ChannelsAreBy limit new → ChannelsAreBy limit (unless refusal old new)
+  unless_within : (refusal : Option Stop) (old new : DmaState) → ChannelsAreBy limit old → ChannelsAreBy limit new
+      → ChannelsAreBy limit (if is_some refusal then old else new)
   unless_within None old new h k = k
   unless_within (Some stop) old new h k = h
 
-  same_proc : (refusal : Option Stop) (old new : DmaState) → new.proc ≡ old.proc → (unless refusal old new).proc ≡ old.proc
+  same_proc : (refusal : Option Stop) (old new : DmaState) → new.proc ≡ old.proc → (if is_some refusal then old else new).proc ≡ old.proc
   same_proc None old new h = h
   same_proc (Some stop) old new h = refl
 

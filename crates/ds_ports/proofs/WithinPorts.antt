@@ -15,7 +15,6 @@ use Rattle.ds_card.specs.declared.cards.Transfer.{Transfer}
 use Rattle.ds_card.proofs.Schedules.{read_makes, write_makes}
 use Rattle.gx_matrix.specs.declared.commands.GeometryCommand.TheVariants.{MtxMode}
 use Rattle.gx_fifo.specs.Entries.{begun, done_after}
-use Rattle.gx_fifo.specs.GxStates.{due_after}
 use Rattle.gx_fifo.specs.PackedWords.{word_taken}
 use Rattle.ds_ports.specs.WithinLaws.{AreWithinTick}
 use Rattle.ds_ports.proofs.Covered.{are_all, read_leaves, write_leaves}
@@ -26,6 +25,7 @@ use Rattle.ds_ports.proofs.Passed.{any_covered, any_register}
 use Rattle.ds_ports.proofs.RegisterMaps.{some_slot}
 use Rattle.ds_ports.proofs.WithinOwn.{OwnStays, acked_own, alike, chosen_own, control_own, enabled_own, port_own, raised_own, reload_own, told_own}
 use Rattle.ds_ports.specs.RegisterMap.{numbers_of}
+use Rattle.std.specs.Option.{option_or}
 
 -- Accesses at a tick below a limit keep the units within it.
 
@@ -158,7 +158,7 @@ module _ (limit : ℕ) where
     by_head (Some command) = (let few = few_clocks command in omega (arith, few, lt))
 
   came_soon : (now : Tick) (due : Option Tick) (waits : Bool) (entries : List GxEntry) → now.0 < limit → IsSoonBy limit due
-      → IsSoonBy limit (due_after due (begun now waits entries))
+      → IsSoonBy limit (option_or due (begun now waits entries))
   came_soon now None waits entries lt h = begun_soon now waits entries lt
   came_soon now (Some due) waits entries lt h = h
 

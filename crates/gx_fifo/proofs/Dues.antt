@@ -5,8 +5,8 @@ use Rattle.gx_matrix.specs.declared.commands.GeometryCommand.{GeometryCommand}
 use Rattle.gx_fifo.specs.declared.entries.GxEntry.{GxEntry}
 use Rattle.gx_fifo.specs.Entries.{begun, complete_command, done_after}
 use Rattle.gx_fifo.specs.PackedWords.{FifoState}
-use Rattle.gx_fifo.specs.GxStates.{due_after}
 use Rattle.gx_fifo.proofs.Growing.{complete_grows, Grows}
+use Rattle.std.specs.Option.{option_or}
 
 -- A command is due exactly where the head command is complete and no swap waits.
 
@@ -19,12 +19,12 @@ begun_is now true entries = refl
 begun_is now false entries = begun_by now (complete_command entries)
 
 due_by : (due : Option Tick) (now : Tick) (swap : Bool) (entries more : List GxEntry) → is_some due ≡ (not swap && is_some (complete_command entries)) →
-    is_some (due_after due (begun now swap (entries ++ more))) ≡ (not swap && is_some (complete_command (entries ++ more)))
+    is_some (option_or due (begun now swap (entries ++ more))) ≡ (not swap && is_some (complete_command (entries ++ more)))
 due_by None now swap entries more due = begun_is now swap (entries ++ more)
 due_by (Some tick) now true entries more due = absurd (true≢false due)
 due_by (Some tick) now false entries more due = sym (complete_grows entries more (sym due))
 
 pub due_kept : (most : ℕ) (old new : FifoState) (due : Option Tick) (now : Tick) (swap : Bool) → Grows most old new →
     is_some due ≡ (not swap && is_some (complete_command old.entries)) →
-    is_some (due_after due (begun now swap new.entries)) ≡ (not swap && is_some (complete_command new.entries))
+    is_some (option_or due (begun now swap new.entries)) ≡ (not swap && is_some (complete_command new.entries))
 due_kept most old new due now swap grows is = rw grows.entries (due_by due now swap old.entries grows.more is)

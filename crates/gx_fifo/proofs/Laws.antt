@@ -16,9 +16,10 @@ use Rattle.gx_fifo.specs.declared.ports.GxPort.TheVariants.{Display, Fifo, Direc
 use Rattle.gx_fifo.specs.Entries.{asks_for_swap, begun, complete_command, done_after, entries_taken, most_entries, words_taken}
 use Rattle.gx_fifo.specs.PackedWords.{FifoState, word_taken, entry_added}
 use Rattle.gx_fifo.specs.GxPorts.{gx_port}
-use Rattle.gx_fifo.specs.GxStates.{GxState, AddsOneVertex, AreWaiting, done_by, due_after, entries_came, gx_finished, gx_swapped, gx_written, write_port}
+use Rattle.gx_fifo.specs.GxStates.{GxState, AddsOneVertex, AreWaiting, done_by, entries_came, gx_finished, gx_swapped, gx_written, write_port}
 use Rattle.gx_fifo.proofs.Growing.{Grows, entry_grows, grows_by, word_grows}
 use Rattle.gx_fifo.proofs.Dues.{begun_is, due_kept}
+use Rattle.std.specs.Option.{option_or}
 
 -- What each call makes of what waits and of the due tick, said of the states alone, for those who take them into a larger one.
 
@@ -34,7 +35,7 @@ pub begun_later : (now : Tick) (swap : Bool) (entries : List GxEntry) → IsLate
 begun_later now true entries = tt
 begun_later now false entries = head_later now (complete_command entries)
 
-came_schedules : (now : Tick) (due : Option Tick) (swap : Bool) (entries : List GxEntry) → Reschedules now due (due_after due (begun now swap entries))
+came_schedules : (now : Tick) (due : Option Tick) (swap : Bool) (entries : List GxEntry) → Reschedules now due (option_or due (begun now swap entries))
 came_schedules now None swap entries = inr (begun_later now swap entries)
 came_schedules now (Some due) swap entries = inl refl
 

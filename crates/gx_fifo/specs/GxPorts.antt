@@ -1,4 +1,5 @@
-use Rattle.std.specs.Prelude.{ℕ, ◌+◌, ◌-◌, ◌*◌, ◌/◌, nat_lt, nat_le, ◌&&◌, if◌then◌else◌, Bool, true, false, List, [], ◌∷◌}
+use Rattle.std.specs.Prelude.{ℕ, ◌+◌, ◌-◌, ◌*◌, ◌/◌, if◌then◌else◌, Bool, true, false, List, [], ◌∷◌}
+use Rattle.ds_base.specs.Numbers.{is_within}
 use Rattle.gx_fifo.specs.declared.ports.GxPort.{GxPort}
 use Rattle.gx_fifo.specs.declared.ports.GxPort.TheVariants.{Display, Fifo, Direct, Status, Lengths, Position, Vector, Clip, VectorMatrix, Unlisted}
 
@@ -28,16 +29,10 @@ engine_rows =
     ∷ gx_port_row 0x680 9 false (λ i. VectorMatrix i)  -- VECMTX_RESULT
     ∷ []
 
-abbrev pub gx_ports : List GxPortRow
-gx_ports = display_control_row ∷ engine_rows
-
-abbrev pub covers_offset : GxPortRow → ℕ → Bool
-covers_offset r at = nat_le r.first at && nat_lt at (r.first + 4 * r.words)
-
 abbrev pub port_among : List GxPortRow → ℕ → GxPort
 port_among [] at = Unlisted
-port_among (r ∷ rows) at = if covers_offset r at then r.port ((at - r.first) / 4) else port_among rows at
+port_among (r ∷ rows) at = if is_within r.first (4 * r.words) at then r.port ((at - r.first) / 4) else port_among rows at
 
 -- the port at an offset
 unfoldable pub gx_port : ℕ → GxPort
-gx_port at = port_among gx_ports at
+gx_port at = port_among (display_control_row ∷ engine_rows) at

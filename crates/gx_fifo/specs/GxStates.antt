@@ -12,6 +12,7 @@ use Rattle.gx_fifo.specs.PackedWords.{FifoState, fifo_at_boot, is_given, word_ta
 use Rattle.gx_fifo.specs.GxPorts.{gx_port}
 use Rattle.gx_fifo.specs.declared.ports.GxPort.{GxPort}
 use Rattle.gx_fifo.specs.declared.ports.GxPort.TheVariants.{Display, Fifo, Direct, Status, Lengths, Position, Vector, Clip, VectorMatrix}
+use Rattle.std.specs.Option.{option_or}
 
 -- The geometry engine with what waits for it.
 pub record GxState : Type 0 where
@@ -91,17 +92,13 @@ word_in numbers i = cast_unsigned w32 (slice_index_or numbers i (pos 0))
 abbrev pub half_in : List ℤ → ℕ → ℕ
 half_in numbers i = cast_unsigned w16 (slice_index_or numbers i (pos 0))
 
--- word i of the vector matrix, which shows three rows of three (GBATEK, VECMTX_RESULT)
-abbrev pub in_three_rows : ℕ → ℕ
-in_three_rows i = i / 3 * 4 + i % 3
-
--- what the ports of results read (GBATEK, "DS 3D Status" and "DS 3D Tests")
+-- what the ports of results read (GBATEK, "DS 3D Status" and "DS 3D Tests"); of the vector matrix three rows of three (GBATEK, VECMTX_RESULT)
 unfoldable pub engine_word : GxPort → GeometryState → ℕ
 engine_word Lengths g = length g.outcome.polygons + length g.outcome.vertices * 2 ^ 16
 engine_word (Position i) g = word_in g.outcome.position i
 engine_word (Vector i) g = half_in g.outcome.vector (2 * i) + half_in g.outcome.vector (2 * i + 1) * 2 ^ 16
 engine_word (Clip i) g = word_in (clip_of g.numbers.stacks).cells i
-engine_word (VectorMatrix i) g = word_in g.numbers.stacks.pose.vector.cells (in_three_rows i)
+engine_word (VectorMatrix i) g = word_in g.numbers.stacks.pose.vector.cells (i / 3 * 4 + i % 3)
 engine_word _ g = 0
 
 -- what a port reads; those that only take words read 0
@@ -124,14 +121,9 @@ gx_kept s at = kept_port (gx_port at) s
 
 -- What a write leaves.
 
--- a command that is under way goes on; otherwise the head command begins
-abbrev pub due_after : Option Tick → Option Tick → Option Tick
-due_after (Some due) begins = Some due
-due_after None begins = begins
-
--- entries came at a tick
+-- entries came at a tick: a command that is under way goes on; otherwise the head command begins
 abbrev pub entries_came : Tick → FifoState → GxState → GxState
-entries_came now fifo s = record s { fifo = fifo; due = due_after s.due (begun now s.swap_waits fifo.entries) }
+entries_came now fifo s = record s { fifo = fifo; due = option_or s.due (begun now s.swap_waits fifo.entries) }
 
 -- DISP3DCNT keeps bits 0 to 14 but for bit 13, where a 1 clears the lists' overflow (GBATEK, DISP3DCNT)
 abbrev pub kept_display : ℕ → ℕ
@@ -167,9 +159,8 @@ command_done command now s =
     }
 
 abbrev pub done_by : Option Tick → Option GeometryCommand → GxState → GxState
-done_by None head s = s
-done_by (Some now) None s = s
 done_by (Some now) (Some command) s = command_done command now s
+done_by due head s = s
 
 abbrev pub gx_finished : GxState → GxState
 gx_finished s = done_by s.due (complete_command s.fifo.entries) s

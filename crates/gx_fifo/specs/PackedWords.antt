@@ -1,4 +1,4 @@
-use Rattle.std.specs.Prelude.{ℕ, zero, suc, ◌+◌, ◌/◌, ◌^◌, ◌==◌, ◌&&◌, ◌||◌, nat_le, nat_lt, if◌then◌else◌, Bool, List, [], ◌∷◌, ◌++◌, map, take_while, filter_map, Option, Some, None}
+use Rattle.std.specs.Prelude.{ℕ, zero, suc, ◌+◌, ◌/◌, ◌^◌, ◌==◌, ◌&&◌, ◌||◌, nat_le, nat_lt, if◌then◌else◌, Bool, List, [], ◌∷◌, ◌++◌, map, take_while, filter_map, Option, Some, None, option_map, unwrap_or}
 use Rattle.ds_base.specs.Bits.{bits}
 use Rattle.gx_matrix.specs.CommandTable.{command_row, command_of}
 use Rattle.gx_matrix.specs.declared.commands.GeometryCommand.{GeometryCommand}
@@ -26,8 +26,7 @@ abbrev pub first_command : ℕ → Option GeometryCommand
 first_command word = command_of (bits 0 8 word)
 
 abbrev pub parameters_of : Option GeometryCommand → ℕ
-parameters_of None = 0
-parameters_of (Some command) = (command_row command).parameters
+parameters_of command = unwrap_or (option_map (λ c. (command_row c).parameters) command) 0
 
 abbrev pub first_parameters : ℕ → ℕ
 first_parameters word = parameters_of (first_command word)

@@ -8,7 +8,8 @@ ghost use Rattle.gx_matrix.specs.CommandTable.{command_of};
 ghost use Rattle.gx_geometry.specs.States.{AreListsSince};
 ghost use Rattle.gx_fifo.specs.Entries.{begun, done_after, complete_command, asks_for_swap};
 ghost use Rattle.gx_fifo.specs.PackedWords.{word_taken, entry_added};
-ghost use Rattle.gx_fifo.specs.GxStates.{AddsOneVertex, IsGx, gx_at_boot, waiting_entries, shown_of, stalls_by, half_empty_by, level_by, shown_count, is_stalled, is_half_empty, gx_level, gx_status, display_control, read_port, gx_word, gx_kept, kept_port, gx_written, gx_finished, gx_swapped, disp3dcnt_written, gxstat_written, entries_came, due_after, engine_word, word_in, half_in};
+ghost use Rattle.gx_fifo.specs.GxStates.{AddsOneVertex, IsGx, gx_at_boot, waiting_entries, shown_of, stalls_by, half_empty_by, level_by, shown_count, is_stalled, is_half_empty, gx_level, gx_status, display_control, read_port, gx_word, gx_kept, kept_port, gx_written, gx_finished, gx_swapped, disp3dcnt_written, gxstat_written, entries_came, engine_word, word_in, half_in};
+ghost use Rattle.std.specs.Option.{option_or};
 
 mod saved;
 
@@ -81,7 +82,7 @@ fn begun(now: Tick, swap_waits: bool, entries: &Entries) -> Option<Tick>
 /// When the head command is done after entries came at a tick.
 fn due_after(due: Option<Tick>, now: Tick, swap_waits: bool, entries: &Entries) -> Option<Tick>
     requires { IsEarly (Some now) }
-    ensures value { result ≡ due_after due (begun now swap_waits entries.now) }
+    ensures value { result ≡ option_or due (begun now swap_waits entries.now) }
     ensures schedule { Reschedules now due result }
 {
     match due {

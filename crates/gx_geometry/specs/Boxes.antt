@@ -10,11 +10,10 @@ use Rattle.gx_geometry.specs.declared.boxes.Plane.TheVariants.{Right, Left, Top,
 use Rattle.gx_geometry.specs.Numbers.{low_half, high_half, given_point}
 
 -- A vertex through the clip matrix: x, y, z, 1.0 as a row (GBATEK, "DS 3D Matrix Types")
-abbrev pub clipped_of : List ℤ → Clipped
-clipped_of v = record { x = at v 0; y = at v 1; z = at v 2; w = at v 3 }
-
 unfoldable pub through : Point → Matrix → Clipped
-through p m = clipped_of (transform4 (p.x ∷ p.y ∷ p.z ∷ pos 4096 ∷ []) m)
+through p m =
+    let v = transform4 (p.x ∷ p.y ∷ p.z ∷ pos 4096 ∷ []) m in
+    record { x = at v 0; y = at v 1; z = at v 2; w = at v 3 }
 
 -- The box test (GBATEK, BOX_TEST): x, y and z of a corner, and how wide, high and deep the box is; the other corners wrap to halves (our choice)
 unfoldable pub far_side : Bool → ℤ → ℤ → ℤ

@@ -6,7 +6,6 @@ use Rattle.gx_matrix.specs.Commands.{commanded}
 use Rattle.gx_matrix.specs.declared.commands.GeometryCommand.{GeometryCommand}
 use Rattle.gx_matrix.specs.declared.commands.GeometryCommand.TheVariants.{Color, Normal, Texcoord, Vtx16, Vtx10, VtxXy, VtxXz, VtxYz, VtxDiff, PolygonAttr, TeximageParam, PlttBase, DifAmb, SpeEmi, LightVector, LightColor, Shininess, BeginVtxs, SwapBuffers, Viewport, PosTest}
 use Rattle.gx_geometry.specs.declared.numbers.Coordinates.{Coordinates}
-use Rattle.gx_geometry.specs.declared.numbers.Light.{Light}
 use Rattle.gx_geometry.specs.declared.numbers.Numbers.{Numbers}
 use Rattle.gx_geometry.specs.Numbers.{low_half, high_half, kind_of, point_by_halves, point_after}
 use Rattle.gx_geometry.specs.Lights.{turned, lit_colour, light_at}
@@ -54,18 +53,14 @@ specular_given word s =
     record s { material = record s.material { specular = bits 0 15 word; emission = bits 16 15 word; by_table = bit 15 word } }
 
 -- a light's vector, turned by the vector matrix, and its colour; bits 30 and 31 name the light (GBATEK, LIGHT_VECTOR and LIGHT_COLOR)
-abbrev pub pointed : List ℤ → Light → Light
-pointed v light = record light { x = at v 0; y = at v 1; z = at v 2 }
-
 unfoldable pub light_pointed : ℕ → Numbers → Numbers
-light_pointed word s = record s {
-  lights = slice_set s.lights (bits 30 2 word) (pointed (turned word s.stacks.pose.vector) (light_at s (bits 30 2 word)));
-}
+light_pointed word s =
+    let v = turned word s.stacks.pose.vector in
+    record s { lights = slice_set s.lights (bits 30 2 word) (record (light_at s (bits 30 2 word)) { x = at v 0; y = at v 1; z = at v 2 }) }
 
 unfoldable pub light_coloured : ℕ → Numbers → Numbers
-light_coloured word s = record s {
-  lights = slice_set s.lights (bits 30 2 word) (record (light_at s (bits 30 2 word)) { colour = bits 0 15 word });
-}
+light_coloured word s =
+    record s { lights = slice_set s.lights (bits 30 2 word) (record (light_at s (bits 30 2 word)) { colour = bits 0 15 word }) }
 
 -- a run begins: its kind, and the attributes that were set come into force (GBATEK, BEGIN_VTXS and POLYGON_ATTR)
 unfoldable pub run_begun : ℕ → Numbers → Numbers

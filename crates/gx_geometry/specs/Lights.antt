@@ -11,13 +11,9 @@ use Rattle.gx_geometry.specs.Numbers.{ten, no_light}
 
 -- Lighting (GBATEK, "DS 3D Polygon Light Parameters"; the roundings are our choice)
 
--- a normal or a light vector, with 9 fractional bits, as a row
-abbrev pub direction : ℕ → List ℤ
-direction word = ten 0 word ∷ ten 1 word ∷ ten 2 word ∷ pos 0 ∷ []
-
--- the same, turned by the vector matrix
+-- a normal or a light vector, with 9 fractional bits, as a row, turned by the vector matrix
 unfoldable pub turned : ℕ → Matrix → List ℤ
-turned word m = transform4 (direction word) m
+turned word m = transform4 (ten 0 word ∷ ten 1 word ∷ ten 2 word ∷ pos 0 ∷ []) m
 
 -- the sum of the products of two directions, exact
 abbrev pub dot : ℤ → ℤ → ℤ → List ℤ → ℤ
@@ -69,8 +65,5 @@ added s n i k =
 unfoldable pub lit_channel : Numbers → List ℤ → ℕ → ℕ
 lit_channel s n k = min 31 (channel k s.material.emission + added s n 0 k + added s n 1 k + added s n 2 k + added s n 3 k)
 
-abbrev pub colour_by : (ℕ → ℕ) → ℕ
-colour_by channels = channels 0 + channels 1 * 2 ^ 5 + channels 2 * 2 ^ 10
-
 unfoldable pub lit_colour : Numbers → List ℤ → ℕ
-lit_colour s n = colour_by (lit_channel s n)
+lit_colour s n = lit_channel s n 0 + lit_channel s n 1 * 2 ^ 5 + lit_channel s n 2 * 2 ^ 10

@@ -3,7 +3,6 @@ use Rattle.ds_base.specs.declared.ticks.Tick.{Tick}
 use Rattle.gx_matrix.specs.Commands.{clip_of}
 use Rattle.gx_matrix.specs.declared.commands.GeometryCommand.{GeometryCommand}
 use Rattle.gx_matrix.specs.declared.commands.GeometryCommand.TheVariants.{BeginVtxs, BoxTest, PosTest, VecTest}
-use Rattle.gx_geometry.specs.declared.boxes.Clipped.{Clipped}
 use Rattle.gx_geometry.specs.declared.numbers.Numbers.{Numbers}
 use Rattle.gx_geometry.specs.declared.polygons.Vertex.{Vertex}
 use Rattle.gx_geometry.specs.declared.polygons.Polygon.{Polygon}
@@ -84,12 +83,10 @@ results_of o = record {
 
 -- after a command that tests: the box, the position or the vector test (GBATEK, BOX_TEST, POS_TEST, VEC_TEST); one that begins a run forgets the
 -- vertices of the run before
-abbrev pub clip_words : Clipped → List ℤ
-clip_words c = c.x ∷ c.y ∷ c.z ∷ c.w ∷ []
-
 unfoldable pub tested : GeometryCommand → List ℕ → Numbers → OutcomeState → OutcomeState
 tested BoxTest params s o = record o { inside = box_test params (clip_of s.stacks) }
-tested PosTest params s o = record o { position = clip_words (through (point_by_halves params) (clip_of s.stacks)) }
+tested PosTest params s o =
+    let c = through (point_by_halves params) (clip_of s.stacks) in record o { position = c.x ∷ c.y ∷ c.z ∷ c.w ∷ [] }
 tested VecTest params s o = record o { vector = vector_test (slice_index params 0) s.stacks.pose.vector }
 tested BeginVtxs params s o = record o { recent = none_recent }
 tested _ params s o = o
@@ -134,11 +131,8 @@ geometry_after command params g =
 abbrev pub geometry_error_cleared : GeometryState → GeometryState
 geometry_error_cleared g = record g { numbers = numbers_cleared g.numbers }
 
-abbrev pub flag_cleared : OutcomeState → OutcomeState
-flag_cleared o = record o { overflow = false }
-
 abbrev pub overflow_cleared : GeometryState → GeometryState
-overflow_cleared g = record g { outcome = flag_cleared g.outcome }
+overflow_cleared g = record g { outcome = record g.outcome { overflow = false } }
 
 -- after all that was done
 abbrev pub after_act : GeometryAct → GeometryState → GeometryState

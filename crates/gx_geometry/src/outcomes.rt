@@ -1,9 +1,9 @@
 //! What commands bring about beside the numbers: the results of tests, and the open lists.
 
-ghost use Rattle.std.specs.Prelude.{◌≡◌, ◌<◌, ◌≤◌, ◌^◌, true, length, IfOk, IfSome};
+ghost use Rattle.std.specs.Prelude.{◌≡◌, ◌<◌, ◌≤◌, ◌^◌, true, false, length, IfOk, IfSome};
 ghost use Rattle.gx_matrix.specs.CommandTable.{HasParameters};
 ghost use Rattle.gx_geometry.specs.Polygons.{polygon_among, most_vertices};
-ghost use Rattle.gx_geometry.specs.States.{no_outcome, four_recent, then_recent, results_of, tested, polygon_added, vertex_added, arrived, flag_cleared, lists_emptied};
+ghost use Rattle.gx_geometry.specs.States.{no_outcome, four_recent, then_recent, results_of, tested, polygon_added, vertex_added, arrived, lists_emptied};
 ghost use Rattle.gx_geometry.specs.BoundLaws.{is_shaped, AreSmall, AreLimited, ArePlaces};
 
 mod saved;
@@ -187,7 +187,7 @@ impl Outcome {
 
     /// The lists' overflow is cleared.
     pub fn clear_overflow(&mut self)
-        ensures { self.new ≡ flag_cleared self.old }
+        ensures { self.new ≡ record self.old { overflow = false } }
     {
         self.results.overflow = false;
     }

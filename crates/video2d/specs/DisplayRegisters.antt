@@ -1,4 +1,4 @@
-use Rattle.std.specs.Prelude.{ℕ, ◌≡◌, ◌≤◌, ◌-◌, ◌*◌, ◌/◌, ◌%◌, ◌^◌, Bool, true, false, if◌then◌else◌, List, [], ◌∷◌, ◌++◌, Option, Some, None}
+use Rattle.std.specs.Prelude.{ℕ, ◌≡◌, ◌≤◌, ◌-◌, ◌*◌, ◌/◌, ◌%◌, ◌^◌, Bool, true, false, if◌then◌else◌, List, [], ◌∷◌, ◌++◌, Option, Some, None, option_map, unwrap_or}
 use Rattle.ds_base.specs.Numbers.{is_within}
 use Rattle.video2d.specs.declared.display_registers.DisplayRegister.{DisplayRegister}
 use Rattle.video2d.specs.declared.display_registers.DisplayRegister.TheVariants.{Dispstat, Vcount, Powcnt1, Dispcnt, Bg0cnt, Bg0hofs, Bg2pa, Bg2x, Bg3pa, Bg3x, Win0h, Win0v, Winin, Winout, Mosaic, Bldcnt, Bldalpha, Bldy, MasterBright, Dispcapcnt}
@@ -104,5 +104,4 @@ kept_at row at = row.kept / 2 ^ (8 * ((at - row.first) % row.bytes)) % 256
 
 -- the byte there, if it is read
 abbrev pub read_of : Option DisplayRow → ℕ → ℕ
-read_of None byte = 0
-read_of (Some row) byte = if row.reads then byte else 0
+read_of row byte = unwrap_or (option_map (λ (r : DisplayRow). if r.reads then byte else 0) row) 0

@@ -5,7 +5,7 @@ use Rattle.ds_base.specs.declared.memories.Width.TheVariants.{Half, Word}
 use Rattle.bg2d.specs.declared.layers.AffineLayer.{AffineLayer}
 use Rattle.bg2d.specs.declared.layers.TextLayer.{TextLayer}
 use Rattle.bg_ext.specs.declared.layers.ExtLayer.{ExtLayer}
-use Rattle.video2d.specs.DisplayRegisters.{engine_row_at, display_offset, kept_at, read_of}
+use Rattle.video2d.specs.DisplayRegisters.{engine_bytes, engine_row_at, display_offset, kept_at, read_of}
 use Rattle.video2d.specs.declared.display_registers.DisplayRegister.TheVariants.{Bg0cnt, Bg0hofs, Bldalpha, Bldcnt, Bldy, Dispcapcnt, Dispcnt, MasterBright, Mosaic}
 use Rattle.video2d.specs.declared.display_registers.DisplayRow.{DisplayRow}
 use Rattle.video2d.specs.declared.engines.Engine.{Engine}
@@ -32,7 +32,7 @@ abbrev pub point_at_boot : PointState
 point_at_boot = record { x = 0; y = 0 }
 
 abbrev pub engine_at_boot : EngineState
-engine_at_boot = record { ports = zeroes 112; two = point_at_boot; three = point_at_boot }
+engine_at_boot = record { ports = zeroes engine_bytes; two = point_at_boot; three = point_at_boot }
 
 -- ---- the registers by GBATEK's names; n is a background's number
 

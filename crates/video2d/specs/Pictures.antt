@@ -77,11 +77,8 @@ is_forced_blank e = bit 7 (dispcnt e)
 
 -- what each display mode shows (GBATEK, the same): white, the layers, a bank of video memory, and main memory, which is left out. Forced blank is
 -- white
-abbrev pub screens_by_mode : List Screen
-screens_by_mode = White ∷ Layers ∷ Bank ∷ MainMemory ∷ []
-
 abbrev pub screen_shown : Engine → EngineState → Screen
-screen_shown which e = if is_forced_blank e then White else slice_index_or screens_by_mode (display_mode which e) MainMemory
+screen_shown which e = if is_forced_blank e then White else slice_index_or (White ∷ Layers ∷ Bank ∷ MainMemory ∷ []) (display_mode which e) MainMemory
 
 -- it shows its layers: display mode 1, and no forced blank
 abbrev pub shows_layers : Engine → EngineState → Bool

@@ -11,14 +11,11 @@ use Rattle.video2d.specs.declared.ports.VideoPort.TheVariants.{Status, Count, Of
 -- What stands at an offset from 4000000h (GBATEK, "DS I/O Maps"): engine A's registers and engine B's, by the same list, both ARM9's alone, as is
 -- POWCNT1; each processor's DISPSTAT; VCOUNT.
 
-abbrev pub port_of_nine : ℕ → VideoPort
-port_of_nine at =
+abbrev pub port_of_one : Proc → ℕ → VideoPort
+port_of_one Nine at =
     if is_within (engine_base A) engine_bytes at then OfEngine A (at - engine_base A)
     else (if has_byte (display_row Powcnt1) at then Power (at - display_offset Powcnt1)
     else (if is_within (engine_base B) engine_bytes at then OfEngine B (at - engine_base B) else Nothing))
-
-abbrev pub port_of_one : Proc → ℕ → VideoPort
-port_of_one Nine at = port_of_nine at
 port_of_one Seven at = Nothing
 
 abbrev pub video_port : Proc → ℕ → VideoPort

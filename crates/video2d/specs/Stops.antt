@@ -1,4 +1,5 @@
 use Rattle.std.specs.Prelude.{ℕ, ◌+◌, ◌==◌, nat_le, ◌&&◌, not, Bool, if◌then◌else◌, List, [], ◌∷◌, map, Option, Some, None}
+use Rattle.std.specs.Option.{option_or}
 use Rattle.std.specs.List.{range_with_len}
 use Rattle.ds_base.specs.Bits.{bit}
 use Rattle.ds_base.specs.declared.left_out.LeftKind.{LeftKind}
@@ -20,8 +21,7 @@ needed_if needs kind value = if needs then Some (record { kind = kind; value = v
 -- the first that there is
 abbrev pub first_need : List (Option Stop) → Option Stop
 first_need [] = None
-first_need (None ∷ needs) = first_need needs
-first_need (Some stop ∷ needs) = Some stop
+first_need (need ∷ needs) = option_or need (first_need needs)
 
 -- engine B's values have 256 more
 abbrev pub value_of_engine : Engine → ℕ → ℕ

@@ -1,4 +1,4 @@
-use Rattle.std.specs.Prelude.{ℕ, ◌==◌, if◌then◌else◌, List, Option, Some, None, Result, Ok, Err}
+use Rattle.std.specs.Prelude.{ℕ, ◌==◌, if◌then◌else◌, List, Option, Some, None, is_some, Result, Ok, Err}
 use Rattle.ds_base.specs.Numbers.{aligned_down, put_by, zeroes}
 use Rattle.ds_base.specs.declared.left_out.Stop.{Stop}
 use Rattle.ds_base.specs.declared.memories.Width.{Width}
@@ -79,10 +79,9 @@ with_engine B v e = record v { b = e }
 -- VCOUNT can't be written (our choice: GBATEK says that writing it sets the line)
 abbrev pub video_byte_written_by : VideoPort → Proc → VideoState → ℕ → VideoState
 video_byte_written_by (Status byte) proc v value = with_status proc v (status_written (status_of v proc) byte value)
-video_byte_written_by (Count byte) proc v value = v
 video_byte_written_by (OfEngine which at) proc v value = with_engine which v (engine_byte_written which (engine_of v which) at value)
 video_byte_written_by (Power byte) proc v value = record v { power = with_half_byte byte v.power value }
-video_byte_written_by Nothing proc v value = v
+video_byte_written_by port proc v value = v
 
 unfoldable pub video_byte_written : Proc → ℕ → ℕ → VideoState → VideoState
 video_byte_written proc at value v = video_byte_written_by (video_port proc at) proc v value
@@ -146,8 +145,7 @@ video_shown v = record {
 
 -- an event that stops changes nothing
 abbrev pub unless_stop : {A : Type 0} → Option Stop → A → A → A
-unless_stop None made left = made
-unless_stop (Some stop) made left = left
+unless_stop stop made left = if is_some stop then left else made
 
 abbrev pub video_after_event : Banks → List ℕ → List ℕ → VideoState → VideoState
 video_after_event m palette oam v = unless_stop (video_stop oam v) (video_happened m palette oam v) v

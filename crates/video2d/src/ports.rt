@@ -1,7 +1,8 @@
 //! What stands at an offset.
 
 ghost use Rattle.std.specs.Prelude.{◌≡◌, ◌<◌, ◌≤◌};
-ghost use Rattle.video2d.specs.Ports.{video_port, port_of_nine, port_of_one, IsInPorts};
+ghost use Rattle.ds_base.specs.declared.processors.Proc.TheVariants.{Nine};
+ghost use Rattle.video2d.specs.Ports.{video_port, port_of_one, IsInPorts};
 
 use crate::engines::Engine;
 use ds_base::Proc;
@@ -23,7 +24,7 @@ pub enum VideoPort {
 
 /// What ARM9 alone has at an offset.
 fn port_of_nine(at: u32) -> VideoPort
-    ensures value { result ≡ port_of_nine at }
+    ensures value { result ≡ port_of_one Nine at }
     ensures inside { IsInPorts result }
 {
     match at {

@@ -12,7 +12,8 @@ use Rattle.ds_machine.proofs.Words.{Stops, Dma, Processor, Video, VideoState, an
 use Rattle.ds_machine.proofs.Words.{awake, due_by, step_by, video_step, SideOf, nine_side, seven_side, side_taken, side_waits, nine_executed, taken}
 use Rattle.ds_machine.proofs.Words.{MachineState, in_ticks, line_of, machine_concluded, map_of, nine_reach, outcome_of, processor_of, seven_reach}
 use Rattle.ds_machine.proofs.Words.{tick_of, with_map}
-use Rattle.std.proofs.Common.{◌&&◌, not}
+use Rattle.std.proofs.Common.{◌&&◌, ◌||◌, not}
+use Rattle.ds_base.specs.Bits.{bits}
 use Rattle.std.specs.List.{range_with_len}
 use Rattle.ds_base.specs.declared.left_out.LeftKind.{LeftKind}
 use Rattle.ds_base.specs.declared.left_out.LeftKind.TheVariants as kinds
@@ -24,8 +25,8 @@ use Rattle.cp15_tcm.specs.declared.answers.Mcr as answer
 use Rattle.cp15_tcm.specs.declared.answers.Mcr.TheVariants as mcr
 use Rattle.ds_dma.specs.Controls.{is_left_out, kept_channel_control, refusal}
 use Rattle.ds_places.specs.declared.kinds.Place as place
-use Rattle.ds_ports.specs.Ports.{byte_refusal, first_stop, half_refusal, refusal_or, slot_refusal, word_refusal}
-use Rattle.ds_ports.specs.Registers.{halt_refusal, is_mode_left_out}
+use Rattle.ds_ports.specs.Ports.{byte_refusal, half_refusal, refusal_or, slot_refusal, word_refusal}
+use Rattle.ds_ports.specs.Registers.{halt_refusal}
 use Rattle.ds_runs.specs.declared.actors.Actor as actor
 use Rattle.video2d.specs.Backgrounds.{is_background_on}
 use Rattle.video2d.specs.Engines.{EngineState, background_mosaic, bgcnt}
@@ -36,6 +37,7 @@ use Rattle.video2d.specs.declared.engines.Engine.{Engine}
 use Rattle.video2d.specs.declared.engines.Engine.TheVariants.{A, B}
 use Rattle.video2d.specs.declared.videos.Shown as display
 use Rattle.ds_machine.specs.Stopping.{NoStopIsNotYet}
+use Rattle.std.specs.Option.{option_or}
 
 -- No step stops for want of what isn't built yet.
 
@@ -146,7 +148,7 @@ card_named : (card : CardState) (at : ℕ) (width : Width) (word : ℕ) → IsNa
 card_named card at width word = stop_if _ (record { kind = kinds.CardTransfer; value = _ }) (λ e. cc)
 
 halt_named : (value : ℕ) → IsNamed (halt_refusal value)
-halt_named value = stop_if (is_mode_left_out value) (record { kind = kinds.HaltMode; value = value }) (λ e. cc)
+halt_named value = stop_if ((bits 6 2 value == 1) || (bits 6 2 value == 3)) (record { kind = kinds.HaltMode; value = value }) (λ e. cc)
 
 module _ (proc : Proc) (u : IoState) where
   register_named : (n word : ℕ) (register : Register) → IsNamed ((meaning_of register).refusal proc u n word)
@@ -166,7 +168,7 @@ module _ (proc : Proc) (u : IoState) where
   either_named width None value other h = h
   either_named width (Some slot) value other h = slot_named width slot value
 
-  both_named : (one two : Option Stop) → IsNamed one → IsNamed two → IsNamed (first_stop one two)
+  both_named : (one two : Option Stop) → IsNamed one → IsNamed two → IsNamed (option_or one two)
   both_named None two h k = k
   both_named (Some stop) two h k = h
 

@@ -1,10 +1,11 @@
 use Rattle.ds_ports.proofs.Words.{ℕ, ◌≡◌, ◌<◌, ◌≤◌, ◌+◌, ◌-◌, ◌*◌, ◌/◌, ◌%◌, ◌^◌, ◌⊎◌, inl, inr, true, nat_le, Option, Some, None, refl, sym, ◌∙◌, ap}
-use Rattle.ds_ports.proofs.Words.{subst, arith, IfSome, none-some, same_Some, Width, Byte, Half, Word, width_bytes, Stop, Proc, Tick, first_stop}
+use Rattle.ds_ports.proofs.Words.{subst, arith, IfSome, none-some, same_Some, Width, Byte, Half, Word, width_bytes, Stop, Proc, Tick}
 use Rattle.ds_ports.proofs.Words.{half_refusal, half_written, port_half, port_read, port_refusal, port_value, port_word, port_written, slot_read}
 use Rattle.ds_ports.proofs.Words.{read_or, refusal_or, whole_in, word_refusal, word_written, written_or, IsWidth, StandsWhole, slot_of, IoState, Slot}
 use Rattle.std.proofs.Math.Nat.{div-div-eq-div-mul}
 use Rattle.ds_ports.specs.Ports.{GoesAscending, ascending, begun_refusal, begun_value, begun_written, first_refusal, values_from}
 use Rattle.ds_ports.proofs.Together.{stands_whole}
+use Rattle.std.specs.Option.{option_or}
 
 -- An access that lies in no one register is one of each register that begins in it, whole, in ascending address.
 
@@ -154,19 +155,19 @@ module _ (proc : Proc) (now : Tick) where
       → port_half proc now u at ≡ values_from proc now u at 2
   half_values u at even na nb = half_value u (slot_of proc at) (slot_of proc (at + 1)) (half_at proc at even na nb)
 
-first_none : (x : Option Stop) → first_stop x None ≡ x
+first_none : (x : Option Stop) → option_or x None ≡ x
 first_none None = refl
 first_none (Some stop) = refl
 
 module _ (proc : Proc) where
   abbrev refusal_by : IoState → Option Slot → Option Slot → ℕ → Option Stop
-  refusal_by u a b value = refusal_or proc u Half (whole_in Half a) value (first_stop (refusal_or proc u Byte a value None) (refusal_or proc u Byte b (value / 2 ^ 8) None))
+  refusal_by u a b value = refusal_or proc u Half (whole_in Half a) value (option_or (refusal_or proc u Byte a value None) (refusal_or proc u Byte b (value / 2 ^ 8) None))
 
   abbrev begun_refusal_by : IoState → Option Slot → Option Slot → ℕ → Option Stop
-  begun_refusal_by u a b value = first_stop (begun_refusal proc u a value) (first_stop (begun_refusal proc u b (value / 2 ^ 8)) None)
+  begun_refusal_by u a b value = option_or (begun_refusal proc u a value) (option_or (begun_refusal proc u b (value / 2 ^ 8)) None)
 
-  last_refusal : (x y : Option Stop) → first_stop x y ≡ first_stop x (first_stop y None)
-  last_refusal x y = ap (λ (z : Option Stop). first_stop x z) (sym (first_none y))
+  last_refusal : (x y : Option Stop) → option_or x y ≡ option_or x (option_or y None)
+  last_refusal x y = ap (λ (z : Option Stop). option_or x z) (sym (first_none y))
 
   small_refusal : (u : IoState) (a b : Option Slot) (value : ℕ) → IsSmall a → IsSmall b → refusal_by u a b value ≡ begun_refusal_by u a b value
   small_refusal u None None value sa sb = refl
@@ -257,7 +258,7 @@ upper_half value = sym (div-div-eq-div-mul value 256 256)
 four_values : (a b c d : ℕ) → a + 2 ^ 8 * (b + 2 ^ 8 * 0) + 2 ^ 16 * (c + 2 ^ 8 * (d + 2 ^ 8 * 0)) ≡ a + 2 ^ 8 * (b + 2 ^ 8 * (c + 2 ^ 8 * (d + 2 ^ 8 * 0)))
 four_values a b c d = omega arith
 
-four_stops : (a b rest : Option Stop) → first_stop (first_stop a (first_stop b None)) rest ≡ first_stop a (first_stop b rest)
+four_stops : (a b rest : Option Stop) → option_or (option_or a (option_or b None)) rest ≡ option_or a (option_or b rest)
 four_stops (Some stop) b rest = refl
 four_stops None (Some stop) rest = refl
 four_stops None None rest = refl
@@ -293,9 +294,9 @@ module _ (proc : Proc) (now : Tick) where
       let n = are_narrow proc at even none in
       let lower = half_refuses proc u at value (omega (arith, even)) n.n0 n.n1 in
       let upper = half_refuses proc u (at + 2) (value / 2 ^ 16) (omega (arith, even)) n.n2 n.n3 in
-      ap (λ (slot : Option Slot). refusal_or proc u Word slot value (first_stop (half_refusal proc u at value) (half_refusal proc u (at + 2) (value / 2 ^ 16)))) none
-      ∙ ap (λ (x : Option Stop). first_stop x (half_refusal proc u (at + 2) (value / 2 ^ 16))) lower
-      ∙ ap (λ (x : Option Stop). first_stop (first_refusal proc u at value 2) x)
+      ap (λ (slot : Option Slot). refusal_or proc u Word slot value (option_or (half_refusal proc u at value) (half_refusal proc u (at + 2) (value / 2 ^ 16)))) none
+      ∙ ap (λ (x : Option Stop). option_or x (half_refusal proc u (at + 2) (value / 2 ^ 16))) lower
+      ∙ ap (λ (x : Option Stop). option_or (first_refusal proc u at value 2) x)
       (upper ∙ ap (λ (k : ℕ). first_refusal proc u k (value / 2 ^ 16) 2) (two_on at) ∙ ap (λ (v : ℕ). first_refusal proc u (at + 1 + 1) v 2) (upper_half value))
       ∙ four_stops (begun_refusal proc u (slot_of proc at) value) (begun_refusal proc u (slot_of proc (at + 1)) (value / 2 ^ 8))
       (first_refusal proc u (at + 1 + 1) (value / 2 ^ 8 / 2 ^ 8) 2)
@@ -315,7 +316,7 @@ module _ (proc : Proc) (now : Tick) where
   ByteGoes u value slot =
       (read_or proc now u Byte slot 0 ≡ begun_value proc now u slot + 2 ^ 8 * 0)
       × (written_or proc now u Byte slot value u ≡ begun_written proc now u slot value)
-      × (refusal_or proc u Byte slot value None ≡ first_stop (begun_refusal proc u slot value) None)
+      × (refusal_or proc u Byte slot value None ≡ option_or (begun_refusal proc u slot value) None)
 
   byte_alone : (u : IoState) (at value : ℕ) → whole_in Byte (slot_of proc at) ≡ None → ByteGoes u value (slot_of proc at)
   byte_alone u at value none = subst (ByteGoes u value) (sym (nothing_there at (slot_of proc at) (stands_whole proc at) none)) (refl, refl, refl)

@@ -1,12 +1,13 @@
 use Rattle.ds_ports.proofs.Words.{ℕ, ◌≡◌, ◌<◌, ◌+◌, ◌-◌, ◌*◌, ◌/◌, ◌^◌, inl, inr, Bool, true, false, true≢false, if◌then◌else◌, Option, Some, None}
 use Rattle.ds_ports.proofs.Words.{refl, sym, ◌∙◌, ap, subst, arith, ◌||◌, IfSome, either, one_of, width_bytes, Stop, Width, Byte, Half, Word, Proc}
-use Rattle.ds_ports.proofs.Words.{Tick, IoState, byte_written, first_stop, half_refusal, half_written, ignores, part, port_half, port_read}
+use Rattle.ds_ports.proofs.Words.{Tick, IoState, byte_written, half_refusal, half_written, ignores, part, port_half, port_read}
 use Rattle.ds_ports.proofs.Words.{port_refusal, port_value, port_word, port_written, read_or, slot_read, refusal_or, slot_joined, slot_refusal}
 use Rattle.ds_ports.proofs.Words.{slot_value, slot_written, whole_if, whole_in, with_bytes_from, word_refusal, word_written, written_or, PortRow}
 use Rattle.ds_ports.proofs.Words.{register_map, slot_of, after_write, meaning_of, Register, Slot}
 use Rattle.ds_base.proofs.Choices.{never}
 use Rattle.ds_ports.specs.Ports.{byte_refusal, port_byte}
 use Rattle.ds_ports.proofs.RegisterMaps.{all_rows, each_place, lies_in, of_place, slot_by_all}
+use Rattle.std.specs.Option.{option_or}
 
 -- A law of the registers of which an access covers bytes is a law of the access.
 
@@ -225,16 +226,16 @@ module _ (kind : Register → Bool) (proc : Proc) (change : IoState → IoState)
   half_refuses : (u : IoState) (at value : ℕ) → HalfIs kind proc at → half_refusal proc (change u) at value ≡ half_refusal proc u at value
   half_refuses u at value h =
       let whole = whole_in Half (slot_of proc at) in
-      ap (λ (stop : Option Stop). refusal_or proc (change u) Half whole value (first_stop stop (byte_refusal proc (change u) (at + 1) (value / 2 ^ 8)))) (byte_refuses u at value h.0)
-      ∙ ap (λ (stop : Option Stop). refusal_or proc (change u) Half whole value (first_stop (byte_refusal proc u at value) stop)) (byte_refuses u (at + 1) (value / 2 ^ 8) h.1)
-      ∙ or_refuses u Half whole value (first_stop (byte_refusal proc u at value) (byte_refusal proc u (at + 1) (value / 2 ^ 8))) (whole_is (Of kind) Half (slot_of proc at) h.0)
+      ap (λ (stop : Option Stop). refusal_or proc (change u) Half whole value (option_or stop (byte_refusal proc (change u) (at + 1) (value / 2 ^ 8)))) (byte_refuses u at value h.0)
+      ∙ ap (λ (stop : Option Stop). refusal_or proc (change u) Half whole value (option_or (byte_refusal proc u at value) stop)) (byte_refuses u (at + 1) (value / 2 ^ 8) h.1)
+      ∙ or_refuses u Half whole value (option_or (byte_refusal proc u at value) (byte_refusal proc u (at + 1) (value / 2 ^ 8))) (whole_is (Of kind) Half (slot_of proc at) h.0)
 
   word_refuses : (u : IoState) (at value : ℕ) → WordIs kind proc at → word_refusal proc (change u) at value ≡ word_refusal proc u at value
   word_refuses u at value h =
       let whole = whole_in Word (slot_of proc at) in
-      ap (λ (stop : Option Stop). refusal_or proc (change u) Word whole value (first_stop stop (half_refusal proc (change u) (at + 2) (value / 2 ^ 16)))) (half_refuses u at value h.0)
-      ∙ ap (λ (stop : Option Stop). refusal_or proc (change u) Word whole value (first_stop (half_refusal proc u at value) stop)) (half_refuses u (at + 2) (value / 2 ^ 16) h.1)
-      ∙ or_refuses u Word whole value (first_stop (half_refusal proc u at value) (half_refusal proc u (at + 2) (value / 2 ^ 16))) (whole_is (Of kind) Word (slot_of proc at) h.0.0)
+      ap (λ (stop : Option Stop). refusal_or proc (change u) Word whole value (option_or stop (half_refusal proc (change u) (at + 2) (value / 2 ^ 16)))) (half_refuses u at value h.0)
+      ∙ ap (λ (stop : Option Stop). refusal_or proc (change u) Word whole value (option_or (half_refusal proc u at value) stop)) (half_refuses u (at + 2) (value / 2 ^ 16) h.1)
+      ∙ or_refuses u Word whole value (option_or (half_refusal proc u at value) (half_refusal proc u (at + 2) (value / 2 ^ 16))) (whole_is (Of kind) Word (slot_of proc at) h.0.0)
 
   pub refusal_passes : (u : IoState) (at : ℕ) (width : Width) (value : ℕ) → Covers kind proc at width → port_refusal proc (change u) at width value ≡ port_refusal proc u at width value
   unfolding port_refusal

@@ -7,7 +7,7 @@ use Rattle.ds_ports.proofs.Words.{KeyScript, Video, Timer, Divider, SquareRoot, 
 use Rattle.ds_ports.proofs.Words.{timer_due, one_reschedules, overflow_keeps, held_due, io_due, IsIo, IsUnchanged, IsProcessorIo, ReschedulesEach}
 use Rattle.ds_ports.proofs.Words.{ProcessorIoState, blocks_processor, processor_io_moved, processor_io_raised, processor_io_triggered, IoState}
 use Rattle.ds_ports.proofs.Words.{both_raised, card_done, card_done_at, starter_told, told_of_card, channel_moved, channels_shown, channels_triggered}
-use Rattle.ds_ports.proofs.Words.{division_done, io_event, io_of, keys_pressed, root_done, shown_to_others, timer_overflows, video_done, with_io_of}
+use Rattle.ds_ports.proofs.Words.{io_event, io_of, keys_pressed, shown_to_others, timer_overflows, video_done, with_io_of}
 use Rattle.ds_ports.proofs.Words.{AreWaiting, is_stalled, Raised, ScanState, scan_after, scan_due, scan_due_tick, VideoState, unless_stop}
 use Rattle.ds_ports.proofs.Words.{video_after_event, video_happened, video_shown, video_stop, Shown, Banks}
 use Rattle.std.specs.Prelude.{◌==◌}
@@ -20,6 +20,8 @@ use Rattle.ds_ports.proofs.Later.{ProcessorIoReschedules, card_each, divider_eac
 use Rattle.video2d.specs.Scans.{blanks_drawn_line, line_after, starts_vblank}
 use Rattle.video2d.specs.Engines.{points_stepped}
 use Rattle.video2d.specs.Videos.{hblank_set, line_drawn, video_blanked, video_line_started}
+use Rattle.ds_math.specs.Dividers.{division_finished}
+use Rattle.ds_math.specs.Roots.{root_finished}
 
 -- What the events of the actors behind the ports make of the units, each at the tick at which it is due.
 
@@ -94,11 +96,11 @@ timer_goes proc number now u all l due =
 
 -- ---- a division, or a square root, is done, and due no more
 
-division_happens : (now : Tick) (u : IoState) → IsIo u → Happens now u (division_done u)
-division_happens now u all = unchanged_happens now u (division_done u) all (λ p. unchanged_same (io_of u p)) (divider_each now u (division_done u).divider (inr tt)) refl
+division_happens : (now : Tick) (u : IoState) → IsIo u → Happens now u (record u { divider = division_finished u.divider })
+division_happens now u all = unchanged_happens now u (record u { divider = division_finished u.divider }) all (λ p. unchanged_same (io_of u p)) (divider_each now u (record u { divider = division_finished u.divider }).divider (inr tt)) refl
 
-root_happens : (now : Tick) (u : IoState) → IsIo u → Happens now u (root_done u)
-root_happens now u all = unchanged_happens now u (root_done u) all (λ p. unchanged_same (io_of u p)) (root_each now u (root_done u).root (inr tt)) refl
+root_happens : (now : Tick) (u : IoState) → IsIo u → Happens now u (record u { root = root_finished u.root })
+root_happens now u all = unchanged_happens now u (record u { root = root_finished u.root }) all (λ p. unchanged_same (io_of u p)) (root_each now u (record u { root = root_finished u.root }).root (inr tt)) refl
 
 -- ---- what happens in turn
 

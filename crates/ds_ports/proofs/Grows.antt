@@ -2,13 +2,14 @@ use Rattle.ds_ports.proofs.Words.{ℕ, ◌≡◌, ◌≤◌, ◌+◌, ◌-◌, �
 use Rattle.ds_ports.proofs.Words.{sym, ◌∙◌, ap, subst, arith, IfSome, not, either, Stop, Width, Byte, Half, Word, Proc, Nine, Seven, Tick, GxPort}
 use Rattle.ds_ports.proofs.Words.{Display, Fifo, Direct, Status, Lengths, Position, Vector, Clip, VectorMatrix, Unlisted, gx_port, AreWaiting}
 use Rattle.ds_ports.proofs.Words.{GxState, waiting_entries, write_port, guarded_written, is_overfull, IoState, byte_written, half_written, ignores}
-use Rattle.ds_ports.proofs.Words.{is_narrow, port_refusal, port_written, slot_joined, slot_written, unless_stopped, whole_if, whole_in, word_written}
+use Rattle.ds_ports.proofs.Words.{port_refusal, port_written, slot_joined, slot_written, unless_stopped, whole_if, whole_in, word_written}
 use Rattle.ds_ports.proofs.Words.{written_or, PortRow, register_map, slot_of, after_write, gx_set, Register, GxWord, GxCommand, Slot}
 use Rattle.std.proofs.Common.{◌&&◌}
 use Rattle.gx_fifo.proofs.Laws.{written_grows}
 use Rattle.ds_ports.specs.Touches as touches
 use Rattle.ds_ports.proofs.Passed.{keeps_part, row_leaves}
 use Rattle.ds_ports.proofs.RegisterMaps.{each_place, of_place, slot_by_all}
+use Rattle.ds_card.specs.Cards.{is_whole_word}
 
 -- An access adds four entries at most to those that wait for geometry: one of a whole word of a command's port alone adds any.
 
@@ -87,10 +88,10 @@ others_leave proc now u register number value h = row_leaves touches.Geometry pr
 abbrev AreAsMany : IoState → IoState → Type 0
 AreAsMany u v = waiting_entries v.gx ≡ waiting_entries u.gx
 
-narrow_keeps : (width : Width) → is_narrow width ≡ true → (proc : Proc) (now : Tick) (u : IoState) (register : Register) (number value : ℕ)
+narrow_keeps : (width : Width) → not (is_whole_word width) ≡ true → (proc : Proc) (now : Tick) (u : IoState) (register : Register) (number value : ℕ)
     → keeps_entries register number ≡ true → AreAsMany u (if ignores width register then u else after_write proc now u register number value)
 narrow_keeps width narrow proc now u GxCommand number value k =
-    ignored (is_narrow width && true) (rw narrow refl) where
+    ignored (not (is_whole_word width) && true) (rw narrow refl) where
       ignored : (b : Bool) → b ≡ true → AreAsMany u (if b then u else after_write proc now u GxCommand number value)
       ignored true h = refl
       ignored false h = absurd (true≢false (sym h))
@@ -100,13 +101,13 @@ narrow_keeps width narrow proc now u register number value k =
     either (AreAsMany u) (ignores width register) u (after_write proc now u register number value) refl
     (ap waiting_entries (others_leave proc now u register number value refl))
 
-slot_as_many : (width : Width) → is_narrow width ≡ true → (proc : Proc) (now : Tick) (u : IoState) (slot : Slot) (value : ℕ) → Keeps slot
+slot_as_many : (width : Width) → not (is_whole_word width) ≡ true → (proc : Proc) (now : Tick) (u : IoState) (slot : Slot) (value : ℕ) → Keeps slot
     → AreAsMany u (slot_written proc now u width slot value)
 slot_as_many width narrow proc now u slot value k =
     narrow_keeps width narrow proc now u slot.register slot.number (slot_joined proc u width slot value) k
 
-or_as_many : (width : Width) → is_narrow width ≡ true → (proc : Proc) (now : Tick) (u : IoState) (slot : Option Slot) (value : ℕ) (other : IoState)
-    → IfSome slot Keeps → AreAsMany u other → AreAsMany u (written_or proc now u width slot value other)
+or_as_many : (width : Width) → not (is_whole_word width) ≡ true → (proc : Proc) (now : Tick) (u : IoState) (slot : Option Slot) (value : ℕ)
+    (other : IoState) → IfSome slot Keeps → AreAsMany u other → AreAsMany u (written_or proc now u width slot value other)
 or_as_many width narrow proc now u None value other k h = h
 or_as_many width narrow proc now u (Some slot) value other k h = slot_as_many width narrow proc now u slot value k
 

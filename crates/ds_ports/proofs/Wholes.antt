@@ -1,7 +1,9 @@
 use Rattle.ds_ports.proofs.Words.{ℕ, ◌≡◌, ◌<◌, ◌≤◌, ◌+◌, ◌^◌, nat_le, Bool, true, false, Option, Some, None, refl, ap, subst, arith, width_bytes}
-use Rattle.ds_ports.proofs.Words.{Width, Byte, Half, Word, Proc, Tick, gx_port, GxState, IsGx, gx_kept, kept_port, GxPort, Display, Status, is_narrow}
+use Rattle.ds_ports.proofs.Words.{Width, Byte, Half, Word, Proc, Tick, gx_port, GxState, IsGx, gx_kept, kept_port, GxPort, Display, Status}
 use Rattle.ds_ports.proofs.Words.{port_read, port_refusal, port_value, port_written, slot_refusal, slot_value, slot_written, unless_stopped, whole_if}
 use Rattle.ds_ports.proofs.Words.{whole_in, with_bytes_from, slot_of, after_write, meaning_of, IoState, GxCommand, Slot}
+use Rattle.std.specs.Prelude.{not}
+use Rattle.ds_card.specs.Cards.{is_whole_word}
 
 -- An access that lies in one register, whatever its width.
 
@@ -26,7 +28,8 @@ pub read_whole : (proc : Proc) (now : Tick) (u : IoState) (at : ℕ) (slot : Slo
 unfolding port_read
 read_whole proc now u at slot h = rw h refl
 
-pub read_narrow : (proc : Proc) (now : Tick) (u : IoState) (at : ℕ) (width : Width) → is_narrow width ≡ true → port_read proc now u at width ≡ u
+pub read_narrow : (proc : Proc) (now : Tick) (u : IoState) (at : ℕ) (width : Width) → not (is_whole_word width) ≡ true
+    → port_read proc now u at width ≡ u
 unfolding port_read
 read_narrow proc now u at Byte h = refl
 read_narrow proc now u at Half h = refl

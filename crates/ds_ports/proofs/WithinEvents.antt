@@ -5,8 +5,8 @@ use Rattle.ds_ports.proofs.Words.{Geometry, Card, Dma, Processor, irq_levelled, 
 use Rattle.ds_ports.proofs.Words.{GeometryCommand, complete_command, entries_taken, GxState, done_by, gx_level, is_half_empty, stays_video, IsVideo}
 use Rattle.ds_ports.proofs.Words.{ScanState, scan_after, scan_before, scan_due, scan_due_tick, video_happened, video_shown, video_stop, unless_stop}
 use Rattle.ds_ports.proofs.Words.{Shown, io_due, IoState, both_raised, card_done, card_done_at, channel_moved, channels_shown, channels_triggered}
-use Rattle.ds_ports.proofs.Words.{division_done, geometry_done, geometry_swapped, geometry_triggered, io_event, io_of, keys_pressed, level_told}
-use Rattle.ds_ports.proofs.Words.{raised_to, release_kept, release_of, root_done, settled, shown_to_others, stall_ends, starter_told, tick_after}
+use Rattle.ds_ports.proofs.Words.{geometry_done, geometry_swapped, geometry_triggered, io_event, io_of, keys_pressed, level_told}
+use Rattle.ds_ports.proofs.Words.{raised_to, release_kept, release_of, settled, shown_to_others, stall_ends, starter_told, tick_after}
 use Rattle.ds_ports.proofs.Words.{timer_overflows, told_of_card, video_done, with_halted, with_io_of, keys_told, processor_io_raised}
 use Rattle.ds_ports.proofs.Words.{processor_io_triggered, IsBy, IsSoonBy, OwnIsWithinTick, IsProcessorIo}
 use Rattle.std.proofs.Common.{drop}
@@ -19,6 +19,8 @@ use Rattle.video2d.proofs.SavedScans.{scans_follow}
 use Rattle.ds_ports.proofs.Events.{HasEvent, happened_scan}
 use Rattle.ds_ports.proofs.WithinOwn.{OwnStays, alike, overflow_own, raised_own, told_own, triggered_own, unit_own}
 use Rattle.ds_ports.proofs.WithinPorts.{Stays, begun_soon, beside, beside_all, other_video, own_stays, raised_both, with_own}
+use Rattle.ds_math.specs.Dividers.{division_finished}
+use Rattle.ds_math.specs.Roots.{root_finished}
 
 -- Events at a tick below a limit, and settling after a step, keep the units within it.
 
@@ -58,11 +60,11 @@ module _ (limit : ℕ) where
       (raised_own limit proc (record own { timers = o.timers }) o.bits
       (overflow_own limit proc own number (by_tick now (timer_due (timer_at own.timers number)) due lt) (own_stays limit u h proc)))
 
-  division_stays : (u : IoState) → Stays limit u → Stays limit (division_done u)
-  division_stays u h = beside limit u (division_done u) refl refl h tt h.within.root h.within.gx h.within.card h.within.released refl refl
+  division_stays : (u : IoState) → Stays limit u → Stays limit (record u { divider = division_finished u.divider })
+  division_stays u h = beside limit u (record u { divider = division_finished u.divider }) refl refl h tt h.within.root h.within.gx h.within.card h.within.released refl refl
 
-  root_stays : (u : IoState) → Stays limit u → Stays limit (root_done u)
-  root_stays u h = beside limit u (root_done u) refl refl h h.within.divider tt h.within.gx h.within.card h.within.released refl refl
+  root_stays : (u : IoState) → Stays limit u → Stays limit (record u { root = root_finished u.root })
+  root_stays u h = beside limit u (record u { root = root_finished u.root }) refl refl h h.within.divider tt h.within.gx h.within.card h.within.released refl refl
 
   -- ---- the card's event
 

@@ -75,13 +75,13 @@ pub use Rattle.ds_ports.specs.Guards.{guarded_written, is_overfull}
 pub use Rattle.ds_ports.specs.HappeningLaws.{IsIo, IsProcessorIo, IsTold, IsUnchanged, ReschedulesEach}
 pub use Rattle.ds_ports.specs.Inside.{moves_dues}
 unfoldable pub use Rattle.ds_ports.specs.Inside.{first_with}
-pub use Rattle.ds_ports.specs.Io.{IoState, both_raised, card_done, card_done_at, channel_moved, channels_shown, channels_triggered, division_done}
+pub use Rattle.ds_ports.specs.Io.{IoState, both_raised, card_done, card_done_at, channel_moved, channels_shown, channels_triggered}
 pub use Rattle.ds_ports.specs.Io.{geometry_done, geometry_swapped, geometry_triggered, io_event, io_of, is_settled, keys_pressed, level_told}
-pub use Rattle.ds_ports.specs.Io.{raised_to, release_by, release_kept, release_of, root_done, settled, shown_to_others, stall_ends, starter_told}
+pub use Rattle.ds_ports.specs.Io.{raised_to, release_by, release_kept, release_of, settled, shown_to_others, stall_ends, starter_told}
 pub use Rattle.ds_ports.specs.Io.{tick_after, timer_overflows, told_of_card, video_done, with_gx, with_halted, with_io_of}
 pub use Rattle.ds_ports.specs.Parts.{slot_from}
 unfoldable pub use Rattle.ds_ports.specs.Parts.{slot_among}
-pub use Rattle.ds_ports.specs.Ports.{byte_written, first_stop, half_refusal, half_written, ignores, is_narrow, part, port_half, port_word, read_or}
+pub use Rattle.ds_ports.specs.Ports.{byte_written, half_refusal, half_written, ignores, part, port_half, port_word, read_or}
 pub use Rattle.ds_ports.specs.Ports.{refusal_or, slot_joined, slot_read, slot_refusal, slot_value, slot_written, unless_stopped, whole_if, whole_in}
 pub use Rattle.ds_ports.specs.Ports.{with_bytes_from, word_refusal, word_written, written_or}
 unfoldable pub use Rattle.ds_ports.specs.Ports.{port_read, port_refusal, port_value, port_written}

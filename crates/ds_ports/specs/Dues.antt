@@ -1,4 +1,4 @@
-use Rattle.std.specs.Prelude.{ℕ, max, Bool, true, false, List, [], ◌∷◌, Option, Some, None}
+use Rattle.std.specs.Prelude.{ℕ, max, Bool, true, false, List, [], ◌∷◌, if◌then◌else◌, Option, Some, None, option_map}
 use Rattle.ds_base.specs.declared.processors.Proc.{Proc}
 use Rattle.ds_base.specs.declared.processors.Proc.TheVariants.{Nine, Seven}
 use Rattle.ds_base.specs.declared.ticks.Due.{Due}
@@ -18,12 +18,10 @@ use Rattle.video2d.specs.Scans.{scan_due_tick}
 -- a channel of ARM9's isn't due while a stall of geometry holds it, nor before the tick after the one that ended the last stall (GBATEK, "GXFIFO";
 -- the tick is our choice)
 abbrev pub released_at : ℕ → Option Tick → Option Tick
-released_at released None = None
-released_at released (Some due) = Some (record { 0 = max released due.0 })
+released_at released due = option_map (λ (tick : Tick). (let later : Tick = record { 0 = max released tick.0 } in later)) due
 
 abbrev pub held_due : Bool → ℕ → Option Tick → Option Tick
-held_due true released due = None
-held_due false released due = released_at released due
+held_due held released due = if held then None else released_at released due
 
 abbrev pub dma_due_in : IoState → Proc → ℕ → Option Tick
 dma_due_in u Nine channel = held_due (is_stalled u.gx) u.released (channel_due u.nine.dma channel)

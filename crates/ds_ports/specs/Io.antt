@@ -1,4 +1,4 @@
-use Rattle.std.specs.Prelude.{ℕ, ◌+◌, ◌==◌, ◌&&◌, ◌||◌, not, nat_lt, List, [], ◌∷◌, Bool, false, if◌then◌else◌, Option, Some, None}
+use Rattle.std.specs.Prelude.{ℕ, ◌+◌, ◌==◌, ◌&&◌, ◌||◌, not, nat_lt, List, [], ◌∷◌, Bool, false, if◌then◌else◌, Option, Some, None, option_map, unwrap_or}
 use Rattle.ds_base.specs.declared.processors.Proc.{Proc}
 use Rattle.ds_base.specs.declared.processors.Proc.TheVariants.{Nine, Seven}
 use Rattle.ds_base.specs.declared.processors.Raised.{Raised}
@@ -30,15 +30,11 @@ use Rattle.vram_banks.specs.Cells.{Banks, blank_banks}
 -- ended the last stall while that holds a channel back and no stall does, and else 0; and what each processor has of its own
 pub use Rattle.ds_ports.specs.declared.units.IoParts.{IoParts as IoState}
 
--- what WRAMCNT keeps at boot: ARM7 has all of the shared work RAM (our choice)
-abbrev pub wramcnt_at_boot : ℕ
-wramcnt_at_boot = 3
-
 abbrev pub io_at_boot : IoState
 io_at_boot = record {
   video = video_at_boot;
   vram = blank_banks;
-  wramcnt = wramcnt_at_boot;
+  wramcnt = 3;  -- ARM7 has all of the shared work RAM (our choice)
   ipc = ipc_at_boot;
   pressed = 0;
   fill = 0 ∷ 0 ∷ 0 ∷ 0 ∷ [];
@@ -92,12 +88,6 @@ abbrev pub with_halted : Proc → IoState → Bool → IoState
 with_halted proc u halted = with_io_of proc u (record (io_of u proc) { halted = halted })
 
 -- a division, or a square root, is done
-abbrev pub division_done : IoState → IoState
-division_done u = record u { divider = division_finished u.divider }
-
-abbrev pub root_done : IoState → IoState
-root_done u = record u { root = root_finished u.root }
-
 -- an event triggers the DMA channels of both processors that wait for it
 abbrev pub channels_triggered : Cause → Tick → IoState → IoState
 channels_triggered cause now u = record u { nine = processor_io_triggered u.nine cause now; seven = processor_io_triggered u.seven cause now }
@@ -127,8 +117,7 @@ told_of_card card starter now processor_io =
     triggered_if (event_readies card) causes.Card now (processor_io_raised processor_io (raised_to starter (event_raised card)))
 
 abbrev pub starter_told : Option Proc → CardState → Tick → IoState → IoState
-starter_told None card now u = u
-starter_told (Some starter) card now u = with_io_of starter u (told_of_card card starter now (io_of u starter))
+starter_told starter card now u = unwrap_or (option_map (λ (p : Proc). with_io_of p u (told_of_card card p now (io_of u p))) starter) u
 
 abbrev pub card_done_at : Option Tick → List ℕ → IoState → IoState
 card_done_at None file u = u
@@ -143,8 +132,7 @@ stall_ends u = is_stalled u.gx && not (is_stalled (gx_finished u.gx))
 
 -- the head command of geometry is done, at its due tick. Where it ends a stall ARM9's DMA goes on at the next tick (our choice)
 abbrev pub tick_after : Option Tick → ℕ → ℕ
-tick_after None other = other
-tick_after (Some tick) other = tick.0 + 1
+tick_after due other = unwrap_or (option_map (λ (tick : Tick). tick.0 + 1) due) other
 
 abbrev pub geometry_done : IoState → IoState
 geometry_done u = record u { gx = gx_finished u.gx; released = if stall_ends u then tick_after u.gx.due u.released else u.released }
@@ -197,8 +185,8 @@ is_settled u =
 -- an access of memory and stands below in parts; and a processor, whose steps are instructions.
 abbrev pub io_event : List ℕ → actor.Actor → IoState → IoState
 io_event file (Timer proc number) u = timer_overflows proc number u
-io_event file Divider u = division_done u
-io_event file SquareRoot u = root_done u
+io_event file Divider u = record u { divider = division_finished u.divider }
+io_event file SquareRoot u = record u { root = root_finished u.root }
 io_event file Geometry u = geometry_done u
 io_event file Card u = card_done file u
 io_event file a u = u

@@ -1,7 +1,7 @@
 use Rattle.std.specs.Prelude.{ℕ, ◌+◌, ◌-◌, nat_lt, if◌then◌else◌, List, [], ◌∷◌, ◌++◌, Option, Some, None}
 use Rattle.ds_base.specs.declared.processors.Proc.{Proc}
 use Rattle.ds_ports.specs.declared.registers.Slot.{Slot}
-use Rattle.ds_ports.specs.RegisterMap.{PortRow, display_port, slot_by, slot_in, display_control_rows, status_rows, drawing_rows, gx_control_rows, output_rows, dma_rows, fill_rows, timer_and_key_rows, more_key_rows, ipc_rows, interrupt_rows, memory_rows, maths_rows, boot_rows, power_rows, geometry_rows, second_engine_rows, receive_rows}
+use Rattle.ds_ports.specs.RegisterMap.{PortRow, of_nine, display_port, slot_by, slot_in, display_control_rows, status_rows, drawing_rows, gx_control_rows, output_rows, dma_rows, fill_rows, timer_and_key_rows, more_key_rows, ipc_rows, interrupt_rows, memory_rows, maths_rows, boot_rows, power_rows, geometry_rows, second_engine_rows, receive_rows}
 use Rattle.video2d.specs.declared.display_registers.DisplayRow.{DisplayRow}
 
 -- A map is cut into parts, each with the offset at which it ends, so that an offset is looked up in its part alone. No public clause speaks
@@ -33,15 +33,15 @@ looked_up (p ∷ parts) at = if nat_lt at p.limit then slot_among p.rows at else
 
 abbrev pub low_parts : Proc → List Part
 low_parts proc =
-    map_part 0x004 (display_control_rows proc) ∷ map_part 0x008 status_rows ∷ map_part 0x060 (drawing_rows proc)
-    ∷ map_part 0x064 (gx_control_rows proc)
-    ∷ map_part 0x0B0 (output_rows proc) ∷ map_part 0x0E0 dma_rows ∷ map_part 0x100 (fill_rows proc) ∷ map_part 0x136 timer_and_key_rows
-    ∷ map_part 0x180 (more_key_rows proc) ∷ map_part 0x200 ipc_rows ∷ []
+    map_part 0x004 (of_nine proc display_control_rows) ∷ map_part 0x008 status_rows ∷ map_part 0x060 (of_nine proc drawing_rows)
+    ∷ map_part 0x064 (of_nine proc gx_control_rows)
+    ∷ map_part 0x0B0 (of_nine proc output_rows) ∷ map_part 0x0E0 dma_rows ∷ map_part 0x100 (of_nine proc fill_rows)
+    ∷ map_part 0x136 timer_and_key_rows ∷ map_part 0x180 (more_key_rows proc) ∷ map_part 0x200 ipc_rows ∷ []
 
 abbrev pub high_parts : Proc → List Part
 high_parts proc =
-    map_part 0x240 interrupt_rows ∷ map_part 0x280 (memory_rows proc) ∷ map_part 0x300 (maths_rows proc) ∷ map_part 0x301 boot_rows
-    ∷ map_part 0x400 (power_rows proc) ∷ map_part 0x1000 (geometry_rows proc) ∷ map_part 0x100000 (second_engine_rows proc)
+    map_part 0x240 interrupt_rows ∷ map_part 0x280 (memory_rows proc) ∷ map_part 0x300 (of_nine proc maths_rows) ∷ map_part 0x301 boot_rows
+    ∷ map_part 0x400 (power_rows proc) ∷ map_part 0x1000 (of_nine proc geometry_rows) ∷ map_part 0x100000 (of_nine proc second_engine_rows)
     ∷ map_part 0x100014 receive_rows ∷ []
 
 abbrev pub parts_of : Proc → List Part

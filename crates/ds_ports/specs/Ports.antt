@@ -1,15 +1,17 @@
-use Rattle.std.specs.Prelude.{ℕ, zero, suc, ◌≡◌, ◌+◌, ◌*◌, ◌/◌, ◌%◌, ◌^◌, ◌==◌, nat_le, ◌&&◌, if◌then◌else◌, Bool, true, false, Option, Some, None}
+use Rattle.std.specs.Prelude.{ℕ, zero, suc, ◌≡◌, ◌+◌, ◌*◌, ◌/◌, ◌%◌, ◌^◌, ◌==◌, nat_le, ◌&&◌, not, if◌then◌else◌, Bool, true, false, Option, Some, None, is_some, option_and_then, option_map, unwrap_or}
 use Rattle.ds_base.specs.Numbers.{width_bytes}
 use Rattle.ds_base.specs.declared.memories.Width.{Width}
 use Rattle.ds_base.specs.declared.memories.Width.TheVariants.{Byte, Half, Word}
 use Rattle.ds_base.specs.declared.processors.Proc.{Proc}
 use Rattle.ds_base.specs.declared.left_out.Stop.{Stop}
 use Rattle.ds_base.specs.declared.ticks.Tick.{Tick}
+use Rattle.ds_card.specs.Cards.{is_whole_word}
 use Rattle.ds_ports.specs.RegisterMap.{slot_of}
 use Rattle.ds_ports.specs.Registers.{after_write, meaning_of}
 use Rattle.ds_ports.specs.Io.{IoState}
 use Rattle.ds_ports.specs.declared.registers.Register.{Register}
 use Rattle.ds_ports.specs.declared.registers.Slot.{Slot}
+use Rattle.std.specs.Option.{option_or}
 
 -- What an access of a port reads and leaves. An access that lies in one register is an access of some or all of its bytes. Any other goes
 -- through the registers that it covers in ascending address: it is one of the lower half, and then one of the upper half. Offsets are
@@ -27,21 +29,14 @@ with_bytes_from width byte kept value =
 
 -- the register in which an access lies, if it lies in one
 abbrev pub whole_if : Bool → Slot → Option Slot
-whole_if true slot = Some slot
-whole_if false slot = None
+whole_if whole slot = if whole then Some slot else None
 
 abbrev pub whole_in : Width → Option Slot → Option Slot
-whole_in width None = None
-whole_in width (Some slot) = whole_if (nat_le (slot.byte + width_bytes width) slot.bytes) slot
+whole_in width slot = option_and_then (λ (s : Slot). whole_if (nat_le (s.byte + width_bytes width) s.bytes) s) slot
 
 -- an access that a register ignores: one that is narrower than a word, of a register that takes whole words
-abbrev pub is_narrow : Width → Bool
-is_narrow Byte = true
-is_narrow Half = true
-is_narrow Word = false
-
 abbrev pub ignores : Width → Register → Bool
-ignores width register = is_narrow width && (meaning_of register).takes_words
+ignores width register = not (is_whole_word width) && (meaning_of register).takes_words
 
 -- ---- reads
 
@@ -51,8 +46,7 @@ slot_value proc now u width slot =
     if ignores width slot.register then 0 else part width slot.byte ((meaning_of slot.register).value proc now u slot.number)
 
 abbrev pub read_or : Proc → Tick → IoState → Width → Option Slot → ℕ → ℕ
-read_or proc now u width None other = other
-read_or proc now u width (Some slot) other = slot_value proc now u width slot
+read_or proc now u width slot other = unwrap_or (option_map (slot_value proc now u width) slot) other
 
 abbrev pub port_byte : Proc → Tick → IoState → ℕ → ℕ
 port_byte proc now u at = read_or proc now u Byte (slot_of proc at) 0
@@ -71,8 +65,7 @@ port_value proc now u at Word = port_word proc now u at
 
 -- what a read leaves: a register that a read changes is one that takes whole words
 abbrev pub slot_read : Proc → Tick → IoState → Option Slot → IoState
-slot_read proc now u None = u
-slot_read proc now u (Some slot) = (meaning_of slot.register).after_read proc now u
+slot_read proc now u slot = unwrap_or (option_map (λ (s : Slot). (meaning_of s.register).after_read proc now u) slot) u
 
 unfoldable pub port_read : Proc → Tick → IoState → ℕ → Width → IoState
 port_read proc now u at Byte = u
@@ -91,8 +84,7 @@ slot_written proc now u width slot value =
     if ignores width slot.register then u else after_write proc now u slot.register slot.number (slot_joined proc u width slot value)
 
 abbrev pub written_or : Proc → Tick → IoState → Width → Option Slot → ℕ → IoState → IoState
-written_or proc now u width None value other = other
-written_or proc now u width (Some slot) value other = slot_written proc now u width slot value
+written_or proc now u width slot value other = unwrap_or (option_map (λ (s : Slot). slot_written proc now u width s value) slot) other
 
 abbrev pub byte_written : Proc → Tick → IoState → ℕ → ℕ → IoState
 byte_written proc now u at value = written_or proc now u Byte (slot_of proc at) value u
@@ -115,17 +107,12 @@ port_written proc now u at Word value = word_written proc now u at value
 
 -- ---- refusals: a write is refused whole where it would write a register that refuses it, and then none of its registers is written
 
-abbrev pub first_stop : Option Stop → Option Stop → Option Stop
-first_stop None other = other
-first_stop (Some stop) other = Some stop
-
 abbrev pub slot_refusal : Proc → IoState → Width → Slot → ℕ → Option Stop
 slot_refusal proc u width slot value =
     if ignores width slot.register then None else (meaning_of slot.register).refusal proc u slot.number (slot_joined proc u width slot value)
 
 abbrev pub refusal_or : Proc → IoState → Width → Option Slot → ℕ → Option Stop → Option Stop
-refusal_or proc u width None value other = other
-refusal_or proc u width (Some slot) value other = slot_refusal proc u width slot value
+refusal_or proc u width slot value other = unwrap_or (option_map (λ (s : Slot). slot_refusal proc u width s value) slot) other
 
 abbrev pub byte_refusal : Proc → IoState → ℕ → ℕ → Option Stop
 byte_refusal proc u at value = refusal_or proc u Byte (slot_of proc at) value None
@@ -133,12 +120,12 @@ byte_refusal proc u at value = refusal_or proc u Byte (slot_of proc at) value No
 abbrev pub half_refusal : Proc → IoState → ℕ → ℕ → Option Stop
 half_refusal proc u at value =
     refusal_or proc u Half (whole_in Half (slot_of proc at)) value
-    (first_stop (byte_refusal proc u at value) (byte_refusal proc u (at + 1) (value / 2 ^ 8)))
+    (option_or (byte_refusal proc u at value) (byte_refusal proc u (at + 1) (value / 2 ^ 8)))
 
 abbrev pub word_refusal : Proc → IoState → ℕ → ℕ → Option Stop
 word_refusal proc u at value =
     refusal_or proc u Word (whole_in Word (slot_of proc at)) value
-    (first_stop (half_refusal proc u at value) (half_refusal proc u (at + 2) (value / 2 ^ 16)))
+    (option_or (half_refusal proc u at value) (half_refusal proc u (at + 2) (value / 2 ^ 16)))
 
 unfoldable pub port_refusal : Proc → IoState → ℕ → Width → ℕ → Option Stop
 port_refusal proc u at Byte value = byte_refusal proc u at value
@@ -147,8 +134,7 @@ port_refusal proc u at Word value = word_refusal proc u at value
 
 -- what a write leaves: where it is refused, all stays
 abbrev pub unless_stopped : Option Stop → IoState → IoState → IoState
-unless_stopped None old new = new
-unless_stopped (Some stop) old new = old
+unless_stopped stop old new = if is_some stop then old else new
 
 -- ---- laws of these: an access at a multiple of its width that lies in no one register is one of each register that begins in it, whole, in
 -- ascending address
@@ -180,7 +166,7 @@ ascending proc now u at value (suc n) = ascending proc now (begun_written proc n
 
 abbrev pub first_refusal : Proc → IoState → ℕ → ℕ → ℕ → Option Stop
 first_refusal proc u at value zero = None
-first_refusal proc u at value (suc n) = first_stop (begun_refusal proc u (slot_of proc at) value) (first_refusal proc u (at + 1) (value / 2 ^ 8) n)
+first_refusal proc u at value (suc n) = option_or (begun_refusal proc u (slot_of proc at) value) (first_refusal proc u (at + 1) (value / 2 ^ 8) n)
 
 pub record GoesAscending (proc : Proc) (now : Tick) (u : IoState) (at : ℕ) (width : Width) (value : ℕ) : Type 0 where
   pub reads : port_value proc now u at width ≡ values_from proc now u at (width_bytes width)

@@ -5,7 +5,7 @@ use Rattle.ds_ports.specs.declared.registers.Register.{Register}
 use Rattle.ds_ports.specs.declared.registers.Register.TheVariants.{DisplayHalf, DisplayWord, GxWord, GxCommand, Dmasad, Dmadad, Dmacnt, Dmafill, TmcntL, TmcntH, Keyinput, Keycnt, Extkeyin, Ipcsync, Ipcfifocnt, Ipcfifosend, Ipcfiforecv, Auxspicnt, CardWord, CardData, Ime, Ie, If, Vramcnt, Wramcnt, Vramstat, Wramstat, Divcnt, DivNumer, DivDenom, DivResult, DivremResult, Sqrtcnt, SqrtResult, SqrtParam, Postflg, Haltcnt}
 use Rattle.ds_ports.specs.declared.registers.Slot.{Slot}
 use Rattle.gx_fifo.specs.GxPorts.{GxPortRow, display_control_row, engine_rows}
-use Rattle.video2d.specs.DisplayRegisters.{control_registers, display_row, drawing_registers, engine_base, engine_registers, output_registers}
+use Rattle.video2d.specs.DisplayRegisters.{control_registers, display_row, drawing_registers, engine_base, engine_bytes, engine_registers, output_registers}
 use Rattle.video2d.specs.declared.display_registers.DisplayRegister.{DisplayRegister}
 use Rattle.video2d.specs.declared.display_registers.DisplayRegister.TheVariants.{Dispstat, Vcount, Powcnt1}
 use Rattle.video2d.specs.declared.display_registers.DisplayRow.{DisplayRow}
@@ -22,86 +22,67 @@ pub record PortRow : Type 0 where
   pub register : ℕ → Register
   pub number : ℕ → ℕ
 
--- registers of one name, and those whose numbers begin further on
+-- registers of one name
 abbrev pub port_row : ℕ → ℕ → ℕ → Register → PortRow
 port_row offset bytes count register = record { offset = offset; bytes = bytes; count = count; register = λ place. register; number = λ place. place }
 
-abbrev pub row_from : ℕ → ℕ → ℕ → ℕ → Register → PortRow
-row_from first offset bytes count register = record (port_row offset bytes count register) { number = λ place. first + place }
+-- those whose numbers are their offsets, by which the unit knows them
+abbrev pub by_offset : ℕ → ℕ → ℕ → Register → PortRow
+by_offset offset bytes count register = record (port_row offset bytes count register) { number = λ place. offset + bytes * place }
 
--- the display's, by the rows of its own table and the base from which their offsets count: the number of each is its offset, by which the display
--- knows it
+-- the display's, by the rows of its own table and the base from which their offsets count
 abbrev pub display_port : ℕ → DisplayRow → PortRow
-display_port base row = record {
-  offset = base + row.first;
-  bytes = row.bytes;
-  count = row.count;
-  register = λ place. if row.bytes == 4 then DisplayWord else DisplayHalf;
-  number = λ place. base + row.first + row.bytes * place;
-}
+display_port base row = by_offset (base + row.first) row.bytes row.count (if row.bytes == 4 then DisplayWord else DisplayHalf)
 
 abbrev pub display_ports : ℕ → List DisplayRegister → List PortRow
 display_ports base [] = []
 display_ports base (register ∷ registers) = display_port base (display_row register) ∷ display_ports base registers
 
--- geometry's and the card's: their numbers are their offsets too
-abbrev pub halves_by_offset : ℕ → ℕ → Register → PortRow
-halves_by_offset offset count register = record (port_row offset 2 count register) { number = λ place. offset + 2 * place }
-
-abbrev pub words_by_offset : ℕ → ℕ → Register → PortRow
-words_by_offset offset count register = record (port_row offset 4 count register) { number = λ place. offset + 4 * place }
-
 -- geometry's, by the rows of its own table
 abbrev pub gx_row : GxPortRow → PortRow
-gx_row row = words_by_offset row.first row.words (if row.takes_commands then GxCommand else GxWord)
+gx_row row = by_offset row.first 4 row.words (if row.takes_commands then GxCommand else GxWord)
 
 -- so many times two registers, or three, in turn
 abbrev pub two_in_turn : ℕ → ℕ → ℕ → Register → Register → PortRow
-two_in_turn offset bytes times first second = record {
-  offset = offset;
-  bytes = bytes;
-  count = 2 * times;
+two_in_turn offset bytes times first second = record (port_row offset bytes (2 * times) first) {
   register = λ place. if place % 2 == 0 then first else second;
   number = λ place. place / 2;
 }
 
 abbrev pub three_in_turn : ℕ → ℕ → ℕ → Register → Register → Register → PortRow
-three_in_turn offset bytes times first second third = record {
-  offset = offset;
-  bytes = bytes;
-  count = 3 * times;
+three_in_turn offset bytes times first second third = record (port_row offset bytes (3 * times) first) {
   register = λ place. if place % 3 == 0 then first else (if place % 3 == 1 then second else third);
   number = λ place. place / 3;
 }
 
 -- ---- the rows, in the order of their offsets; those that both processors have stand once
 
+-- rows that ARM9 alone has
+abbrev pub of_nine : Proc → List PortRow → List PortRow
+of_nine Nine rows = rows
+of_nine Seven rows = []
+
 -- engine A's, between which each processor's status and the 3D engine's control stand
-abbrev pub display_control_rows : Proc → List PortRow
-display_control_rows Nine = display_ports (engine_base A) control_registers
-display_control_rows Seven = []
+abbrev pub display_control_rows : List PortRow
+display_control_rows = display_ports (engine_base A) control_registers
 
 abbrev pub status_rows : List PortRow
 status_rows = display_ports 0 (Dispstat ∷ Vcount ∷ [])
 
-abbrev pub drawing_rows : Proc → List PortRow
-drawing_rows Nine = display_ports (engine_base A) drawing_registers
-drawing_rows Seven = []
+abbrev pub drawing_rows : List PortRow
+drawing_rows = display_ports (engine_base A) drawing_registers
 
-abbrev pub gx_control_rows : Proc → List PortRow
-gx_control_rows Nine = gx_row display_control_row ∷ []  -- DISP3DCNT
-gx_control_rows Seven = []
+abbrev pub gx_control_rows : List PortRow
+gx_control_rows = gx_row display_control_row ∷ []  -- DISP3DCNT
 
-abbrev pub output_rows : Proc → List PortRow
-output_rows Nine = display_ports (engine_base A) (output_registers A)
-output_rows Seven = []
+abbrev pub output_rows : List PortRow
+output_rows = display_ports (engine_base A) (output_registers A)
 
 abbrev pub dma_rows : List PortRow
 dma_rows = three_in_turn 0x0B0 4 4 Dmasad Dmadad Dmacnt ∷ []  -- DMA0SAD, DMA0DAD, DMA0CNT to DMA3SAD, DMA3DAD, DMA3CNT
 
-abbrev pub fill_rows : Proc → List PortRow
-fill_rows Nine = port_row 0x0E0 4 4 Dmafill ∷ []  -- DMA0FILL to DMA3FILL
-fill_rows Seven = []
+abbrev pub fill_rows : List PortRow
+fill_rows = port_row 0x0E0 4 4 Dmafill ∷ []  -- DMA0FILL to DMA3FILL
 
 abbrev pub timer_and_key_rows : List PortRow
 timer_and_key_rows =
@@ -119,8 +100,8 @@ ipc_rows =
     port_row 0x180 2 1 Ipcsync  -- IPCSYNC
     ∷ port_row 0x184 2 1 Ipcfifocnt  -- IPCFIFOCNT
     ∷ port_row 0x188 4 1 Ipcfifosend  -- IPCFIFOSEND
-    ∷ halves_by_offset 0x1A0 1 Auxspicnt  -- AUXSPICNT
-    ∷ words_by_offset 0x1A4 3 CardWord  -- ROMCTRL, and the card's command, its first and its second word
+    ∷ by_offset 0x1A0 2 1 Auxspicnt  -- AUXSPICNT
+    ∷ by_offset 0x1A4 4 3 CardWord  -- ROMCTRL, and the card's command, its first and its second word
     ∷ []
 
 abbrev pub interrupt_rows : List PortRow
@@ -134,15 +115,15 @@ abbrev pub memory_rows : Proc → List PortRow
 memory_rows Nine =
     port_row 0x240 1 7 Vramcnt  -- VRAMCNT_A to VRAMCNT_G
     ∷ port_row 0x247 1 1 Wramcnt  -- WRAMCNT
-    ∷ row_from 7 0x248 1 2 Vramcnt  -- VRAMCNT_H, VRAMCNT_I
+    ∷ record (port_row 0x248 1 2 Vramcnt) { number = λ place. 7 + place }  -- VRAMCNT_H, VRAMCNT_I
     ∷ []
 memory_rows Seven =
     port_row 0x240 1 1 Vramstat  -- VRAMSTAT
     ∷ port_row 0x241 1 1 Wramstat  -- WRAMSTAT
     ∷ []
 
-abbrev pub maths_rows : Proc → List PortRow
-maths_rows Nine =
+abbrev pub maths_rows : List PortRow
+maths_rows =
     port_row 0x280 4 1 Divcnt  -- DIVCNT
     ∷ port_row 0x290 4 2 DivNumer  -- DIV_NUMER, its low and its high word
     ∷ port_row 0x298 4 2 DivDenom  -- DIV_DENOM, the same
@@ -152,7 +133,6 @@ maths_rows Nine =
     ∷ port_row 0x2B4 4 1 SqrtResult  -- SQRT_RESULT
     ∷ port_row 0x2B8 4 2 SqrtParam  -- SQRT_PARAM, its low and its high word
     ∷ []
-maths_rows Seven = []
 
 abbrev pub boot_rows : List PortRow
 boot_rows = port_row 0x300 1 1 Postflg ∷ []  -- POSTFLG
@@ -161,13 +141,11 @@ abbrev pub power_rows : Proc → List PortRow
 power_rows Nine = display_ports 0 (Powcnt1 ∷ [])
 power_rows Seven = port_row 0x301 1 1 Haltcnt ∷ []  -- HALTCNT
 
-abbrev pub geometry_rows : Proc → List PortRow
-geometry_rows Nine = map gx_row engine_rows  -- GXFIFO to VECMTX_RESULT
-geometry_rows Seven = []
+abbrev pub geometry_rows : List PortRow
+geometry_rows = map gx_row engine_rows  -- GXFIFO to VECMTX_RESULT
 
-abbrev pub second_engine_rows : Proc → List PortRow
-second_engine_rows Nine = display_ports (engine_base B) (engine_registers B)
-second_engine_rows Seven = []
+abbrev pub second_engine_rows : List PortRow
+second_engine_rows = display_ports (engine_base B) (engine_registers B)
 
 abbrev pub receive_rows : List PortRow
 receive_rows =
@@ -179,14 +157,14 @@ receive_rows =
 
 abbrev pub register_map : Proc → List PortRow
 register_map proc =
-    display_control_rows proc ++ status_rows ++ drawing_rows proc ++ gx_control_rows proc ++ output_rows proc
-    ++ dma_rows ++ fill_rows proc
+    of_nine proc display_control_rows ++ status_rows ++ of_nine proc drawing_rows ++ of_nine proc gx_control_rows ++ of_nine proc output_rows
+    ++ dma_rows ++ of_nine proc fill_rows
     ++ timer_and_key_rows ++ more_key_rows proc ++ ipc_rows
     ++ interrupt_rows ++ memory_rows proc
-    ++ maths_rows proc
+    ++ of_nine proc maths_rows
     ++ boot_rows ++ power_rows proc
-    ++ geometry_rows proc
-    ++ second_engine_rows proc
+    ++ of_nine proc geometry_rows
+    ++ of_nine proc second_engine_rows
     ++ receive_rows
 
 -- ---- what stands at an offset
@@ -210,8 +188,8 @@ slot_of proc at = slot_by (register_map proc) at
 -- registers of one name are told apart by a number below this: from 0 on, or by the offset of the first byte of the display's, geometry's and the
 -- card's
 abbrev pub numbers_of : Register → ℕ
-numbers_of DisplayHalf = 0x1070
-numbers_of DisplayWord = 0x1070
+numbers_of DisplayHalf = engine_base B + engine_bytes
+numbers_of DisplayWord = engine_base B + engine_bytes
 numbers_of GxWord = 0x6A4
 numbers_of GxCommand = 0x6A4
 numbers_of Dmasad = 4

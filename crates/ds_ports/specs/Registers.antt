@@ -58,14 +58,6 @@ idle = record {
   refusal = λ proc u n word. None;
 }
 
--- one that is read alone
-abbrev pub read_only : (IoState → ℕ) → RegisterMeaning
-read_only value = record idle { value = λ proc now u n. value u }
-
--- one that is written alone
-abbrev pub write_only : (Proc → Tick → IoState → ℕ → ℕ → IoState) → RegisterMeaning
-write_only written = record idle { written = written }
-
 -- one that reads what it keeps
 abbrev pub plain : (IoState → ℕ → ℕ) → (IoState → Tick → ℕ → ℕ → IoState) → RegisterMeaning
 plain kept written =
@@ -148,11 +140,8 @@ abbrev pub root_set : IoState → Tick → Bool → ℕ → IoState
 root_set u now wide value = record u { root = root_started u.root wide value now }
 
 -- HALTCNT's modes 1 and 3 are left out, GBA mode and sleep (GBATEK, "DS Power Control")
-abbrev pub is_mode_left_out : ℕ → Bool
-is_mode_left_out value = (bits 6 2 value == 1) || (bits 6 2 value == 3)
-
 abbrev pub halt_refusal : ℕ → Option Stop
-halt_refusal value = if is_mode_left_out value then Some (record { kind = HaltMode; value = value }) else None
+halt_refusal value = if (bits 6 2 value == 1) || (bits 6 2 value == 3) then Some (record { kind = HaltMode; value = value }) else None
 
 -- one of the display's, of which the number is the offset of its first byte: what it reads, what it keeps, and what a write leaves, are told
 -- byte by byte where the display is
@@ -199,10 +188,10 @@ meaning_of TmcntL = record
 meaning_of TmcntH = plain_of_processor (λ processor_io n. (timer_at processor_io.timers n).control)
     (λ proc now pressed processor_io n word. control_written processor_io n (word % 2 ^ 16) now)
 -- KEYINPUT, KEYCNT and EXTKEYIN (GBATEK, "DS Keypad")
-meaning_of Keyinput = read_only (λ u. keyinput_word u.pressed)
+meaning_of Keyinput = record idle { value = λ proc now u n. keyinput_word u.pressed }
 meaning_of Keycnt = plain_of_processor (λ processor_io n. processor_io.keycnt)
     (λ proc now pressed processor_io n word. keycnt_written processor_io pressed (word % 2 ^ 16))
-meaning_of Extkeyin = read_only (λ u. extkeyin_word u.pressed)
+meaning_of Extkeyin = record idle { value = λ proc now u n. extkeyin_word u.pressed }
 -- IPCSYNC (GBATEK, "DS Inter Process Communication (IPC)")
 meaning_of Ipcsync = record idle {
   value = λ proc now u n. ipc_sync_word u.ipc proc;
@@ -216,7 +205,7 @@ meaning_of Ipcfifocnt = record idle {
   written = λ proc now u n word. fifo_control_set proc u (word % 2 ^ 16);
 }
 -- IPCFIFOSEND (the same chapter)
-meaning_of Ipcfifosend = record (write_only (λ proc now u n word. word_sent proc u word)) { takes_words = true }
+meaning_of Ipcfifosend = record idle { takes_words = true; written = λ proc now u n word. word_sent proc u word }
 -- IPCFIFORECV: a read takes the word that is received (the same chapter)
 meaning_of Ipcfiforecv = record idle {
   takes_words = true;
@@ -241,13 +230,13 @@ meaning_of If = record idle {
   written = on_own (λ proc now pressed processor_io n word. if_written processor_io word);
 }
 -- VRAMCNT_A to VRAMCNT_I (GBATEK, "DS Memory Control - VRAM")
-meaning_of Vramcnt = write_only (λ proc now u n word. bank_set u n (word % 2 ^ 8))
+meaning_of Vramcnt = record idle { written = λ proc now u n word. bank_set u n (word % 2 ^ 8) }
 -- WRAMCNT: bits 0 and 1 are kept (GBATEK, "DS Memory Control - WRAM")
 meaning_of Wramcnt = plain (λ u n. u.wramcnt) (λ u now n word. record u { wramcnt = word % 2 ^ 2 })
 -- VRAMSTAT: C and D as they are mapped to ARM7 (GBATEK, "DS Memory Control - VRAM")
-meaning_of Vramstat = read_only (λ u. allotted_of u.vram.controls)
+meaning_of Vramstat = record idle { value = λ proc now u n. allotted_of u.vram.controls }
 -- WRAMSTAT (GBATEK, "DS Memory Control - WRAM")
-meaning_of Wramstat = read_only (λ u. u.wramcnt)
+meaning_of Wramstat = record idle { value = λ proc now u n. u.wramcnt }
 -- DIVCNT; DIV_NUMER, DIV_DENOM, DIV_RESULT and DIVREM_RESULT, of each its low and its high word (GBATEK, "DS Maths")
 meaning_of Divcnt = record idle {
   value = λ proc now u n. divcnt_word u.divider;
@@ -266,11 +255,11 @@ meaning_of Sqrtcnt = record idle {
   kept = λ proc u n. flag 0 u.root.wide;
   written = λ proc now u n word. root_set u now (bit 0 word) u.root.value;
 }
-meaning_of SqrtResult = read_only (λ u. u.root.root)
+meaning_of SqrtResult = record idle { value = λ proc now u n. u.root.root }
 meaning_of SqrtParam = plain (λ u n. word_of_two n u.root.value)
     (λ u now n word. root_set u now u.root.wide (with_word_of_two n u.root.value word))
 -- POSTFLG: the boot is over (GBATEK, "DS Power Control"; that nothing else is kept is our choice)
-meaning_of Postflg = read_only (λ u. 1)
+meaning_of Postflg = record idle { value = λ proc now u n. 1 }
 -- HALTCNT (the same chapter)
 meaning_of Haltcnt = record idle {
   written = on_own (λ proc now pressed processor_io n word. haltcnt_written processor_io (word % 2 ^ 8));

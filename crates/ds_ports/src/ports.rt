@@ -7,13 +7,14 @@ ghost use Rattle.ds_base.specs.declared.memories.Width.{Width};
 ghost use Rattle.ds_base.specs.declared.memories.Width.TheVariants.{Word};
 ghost use Rattle.ds_base.specs.declared.processors.Proc.{Proc};
 ghost use Rattle.ds_base.specs.declared.ticks.Tick.{Tick};
-ghost use Rattle.ds_ports.specs.Ports.{GoesAscending, byte_refusal, byte_written, first_stop, half_refusal, half_written, ignores, with_bytes_from, part, port_byte, port_half, port_read, port_refusal, port_value, port_word, port_written, slot_joined, slot_refusal, slot_value, slot_written, unless_stopped, whole_in, word_refusal, word_written};
+ghost use Rattle.ds_ports.specs.Ports.{GoesAscending, byte_refusal, byte_written, half_refusal, half_written, ignores, with_bytes_from, part, port_byte, port_half, port_read, port_refusal, port_value, port_word, port_written, slot_joined, slot_refusal, slot_value, slot_written, unless_stopped, whole_in, word_refusal, word_written};
 ghost use Rattle.gx_fifo.specs.GxStates.{AreWaiting, waiting_entries};
 ghost use Rattle.ds_ports.specs.Guards.{guarded_refusal, guarded_written, is_overfull};
 ghost use Rattle.ds_ports.specs.HappeningLaws.{Goes, IsProcessorIo, HasOnlyLaterEvents};
 ghost use Rattle.ds_ports.specs.RegisterMap.{IsSlot, StandsWhole, slot_of};
 ghost use Rattle.ds_ports.specs.Io.{IoState, io_of};
 ghost use Rattle.ds_ports.specs.declared.registers.Register.TheVariants.{GxCommand};
+ghost use Rattle.std.specs.Option.{option_or};
 
 use crate::io::Io;
 use crate::registers::{Register, Slot, slot_at, slot_of};
@@ -105,8 +106,8 @@ fn is_command(width: Width, register: Register) -> bool
 }
 
 /// The first of two stops.
-fn first_stop(first: Option<Stop>, other: Option<Stop>) -> Option<Stop>
-    ensures { result ≡ first_stop first other }
+fn option_or(first: Option<Stop>, other: Option<Stop>) -> Option<Stop>
+    ensures { result ≡ option_or first other }
 {
     match first {
         Some(stop) => Some(stop),
@@ -316,7 +317,7 @@ impl Io {
     {
         match whole_in(Width::Half, slot_of(proc, at)) {
             Some(slot) => self.part_refusal(proc, Width::Half, slot, value),
-            None => first_stop(
+            None => option_or(
                 self.byte_refusal(proc, at, value),
                 self.byte_refusal(proc, at + 1, value >> 8),
             ),
@@ -376,7 +377,7 @@ impl Io {
         if let Some(slot) = whole_in(Width::Half, slot_of(proc, at)) {
             return self.put_part(proc, now, Width::Half, slot, value);
         }
-        let stop = first_stop(
+        let stop = option_or(
             self.byte_refusal(proc, at, value),
             self.byte_refusal(proc, at + 1, value >> 8),
         );
@@ -398,7 +399,7 @@ impl Io {
         if let Some(slot) = whole_in(Width::Word, slot_of(proc, at)) {
             return self.put_part(proc, now, Width::Word, slot, value);
         }
-        let stop = first_stop(
+        let stop = option_or(
             self.half_refusal(proc, at, value),
             self.half_refusal(proc, at + 2, value >> 16),
         );

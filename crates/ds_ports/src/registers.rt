@@ -2,7 +2,7 @@
 
 ghost use Rattle.std.specs.Prelude.{◌≡◌, ◌<◌, ◌≤◌, ◌+◌, ◌-◌, ◌*◌, ◌/◌, [], ◌%◌, ◌^◌, ◌==◌, ◌++◌, if◌then◌else◌, Some, IfSome};
 ghost use Rattle.ds_ports.specs.Parts.{high_parts, looked_up, low_parts, parts_of, slot_among, slot_from};
-ghost use Rattle.ds_ports.specs.RegisterMap.{slot_of, IsSlot, display_ports, display_control_rows, status_rows, drawing_rows, gx_control_rows, output_rows, dma_rows, fill_rows, timer_and_key_rows, more_key_rows, ipc_rows, interrupt_rows, memory_rows, maths_rows, boot_rows, power_rows, geometry_rows, second_engine_rows, receive_rows};
+ghost use Rattle.ds_ports.specs.RegisterMap.{slot_of, IsSlot, of_nine, display_ports, display_control_rows, status_rows, drawing_rows, gx_control_rows, output_rows, dma_rows, fill_rows, timer_and_key_rows, more_key_rows, ipc_rows, interrupt_rows, memory_rows, maths_rows, boot_rows, power_rows, geometry_rows, second_engine_rows, receive_rows};
 ghost use Rattle.ds_ports.specs.declared.registers.Register.TheVariants.{DisplayHalf};
 ghost use Rattle.video2d.specs.DisplayRegisters.{control_registers, drawing_registers, engine_registers, output_registers, HasByteAt};
 ghost use Rattle.video2d.specs.declared.engines.Engine.TheVariants.{A, B};
@@ -247,7 +247,7 @@ fn in_display(base: u32, row: Option<DisplayRow>, at: u32) -> Option<Slot>
 #[inline(always)]
 #[tactic(auto, unfolding(crate::specs::Parts::slot_among))]
 fn display_control(proc: Proc, at: u32) -> Option<Slot>
-    ensures { result ≡ slot_among (display_control_rows proc) at }
+    ensures { result ≡ slot_among (of_nine proc display_control_rows) at }
 {
     match proc {
         Proc::Nine => in_display(0, control_row_at(at), at),
@@ -272,7 +272,7 @@ fn status(at: u32) -> Option<Slot>
 #[inline(always)]
 #[tactic(auto, unfolding(crate::specs::Parts::slot_among))]
 fn drawing(proc: Proc, at: u32) -> Option<Slot>
-    ensures { result ≡ slot_among (drawing_rows proc) at }
+    ensures { result ≡ slot_among (of_nine proc drawing_rows) at }
 {
     match proc {
         Proc::Nine => in_display(0, drawing_row_at(at), at),
@@ -284,7 +284,7 @@ fn drawing(proc: Proc, at: u32) -> Option<Slot>
 #[inline(always)]
 #[tactic(auto, unfolding(crate::specs::Parts::slot_among))]
 fn gx_control(proc: Proc, at: u32) -> Option<Slot>
-    ensures { result ≡ slot_among (gx_control_rows proc) at }
+    ensures { result ≡ slot_among (of_nine proc gx_control_rows) at }
 {
     match proc {
         Proc::Nine => match at {
@@ -299,7 +299,7 @@ fn gx_control(proc: Proc, at: u32) -> Option<Slot>
 #[inline(always)]
 #[tactic(auto, unfolding(crate::specs::Parts::slot_among))]
 fn output(proc: Proc, at: u32) -> Option<Slot>
-    ensures { result ≡ slot_among (output_rows proc) at }
+    ensures { result ≡ slot_among (of_nine proc output_rows) at }
 {
     match proc {
         Proc::Nine => in_display(0, output_row_at(Engine::A, at), at),
@@ -311,7 +311,7 @@ fn output(proc: Proc, at: u32) -> Option<Slot>
 #[inline(always)]
 #[tactic(auto, unfolding(crate::specs::Parts::slot_among))]
 fn fills(proc: Proc, at: u32) -> Option<Slot>
-    ensures { result ≡ slot_among (fill_rows proc) at }
+    ensures { result ≡ slot_among (of_nine proc fill_rows) at }
 {
     match proc {
         Proc::Nine => match at {
@@ -424,7 +424,7 @@ fn interrupts(at: u32) -> Option<Slot>
 #[inline(always)]
 #[tactic(auto, unfolding(crate::specs::Parts::slot_among))]
 fn maths(proc: Proc, at: u32) -> Option<Slot>
-    ensures { result ≡ slot_among (maths_rows proc) at }
+    ensures { result ≡ slot_among (of_nine proc maths_rows) at }
 {
     match proc {
         Proc::Nine => match at {
@@ -476,7 +476,7 @@ fn boot(at: u32) -> Option<Slot>
 #[inline(always)]
 #[tactic(auto, unfolding(crate::specs::Parts::slot_among))]
 fn geometry(proc: Proc, at: u32) -> Option<Slot>
-    ensures { result ≡ slot_among (geometry_rows proc) at }
+    ensures { result ≡ slot_among (of_nine proc geometry_rows) at }
 {
     match proc {
         Proc::Nine => match at {
@@ -499,7 +499,7 @@ fn geometry(proc: Proc, at: u32) -> Option<Slot>
 #[tactic(auto, unfolding(crate::specs::Parts::slot_among))]
 fn second_engine(proc: Proc, at: u32) -> Option<Slot>
     requires { 0x1000 ≤ at }
-    ensures { result ≡ slot_among (second_engine_rows proc) at }
+    ensures { result ≡ slot_among (of_nine proc second_engine_rows) at }
 {
     match proc {
         Proc::Nine => in_display(0x1000, engine_row_at(Engine::B, at - 0x1000), at),

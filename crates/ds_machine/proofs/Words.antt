@@ -96,7 +96,7 @@ pub use Rattle.ds_card.specs.TransferLaws.CardHappens.{came, was_read, wrote}
 pub use Rattle.ds_card.specs.TransferLaws.CardPasses.{passed_none, passed_one}
 pub use Rattle.ds_dma.proofs.Wholes.{awaits_none}
 pub use Rattle.ds_dma.specs.declared.channels.Channel.{Channel}
-pub use Rattle.ds_dma.specs.Channels.{is_running, ready, ready_by}
+pub use Rattle.ds_dma.specs.Channels.{after_both, is_running, ready}
 pub use Rattle.ds_dma.specs.Controls.{is_enabled}
 pub use Rattle.ds_dma.specs.Saved.{dma_format, late_runs_by}
 unfoldable pub use Rattle.ds_dma.specs.Saved.{channel_format_by, dma_format_by}
@@ -118,7 +118,8 @@ pub use Rattle.ds_map.specs.Maps.{MapState}
 pub use Rattle.ds_map.specs.Moves.{map_after_unit, next_unit, unit_moved, unit_read, unit_refusal, unit_taken, unit_waits}
 pub use Rattle.ds_map.specs.ShareLaws.{IsSharedSo, is_beyond_seven, is_shown_to_nine}
 pub use Rattle.ds_map.specs.Shares.{is_private_place}
-pub use Rattle.ds_map.specs.Views.{NineReach, SevenReach, nine_memory, seven_memory, tcm_fetched, tcm_read, tcm_refusal, tcm_value, tcm_written}
+pub use Rattle.ds_machine.proofs.NineReads.{tcm_fetched, tcm_value}
+pub use Rattle.ds_map.specs.Views.{NineReach, SevenReach, nine_memory, seven_memory, tcm_read, tcm_refusal, tcm_written}
 pub use Rattle.ds_map.specs.Waits.{Waited, nine_wait, seven_wait, unless_refused, waiting, waits_of}
 unfoldable pub use Rattle.ds_map.specs.Waits.{wait_at}
 unfoldable pub use Rattle.ds_math.specs.Saved.{divider_format, root_format}
@@ -194,7 +195,7 @@ pub use Rattle.ds_machine.specs.Booted.{header_bytes, header_place, machine_blan
 pub use Rattle.ds_machine.specs.Boots.{copied, stored}
 pub use Rattle.ds_machine.specs.CardSteps.{place_word, register_word, slot_word, tcm_word}
 unfoldable pub use Rattle.ds_machine.specs.CardSteps.{map_word}
-pub use Rattle.ds_machine.specs.Channels.{channel_step, delayed_past, moved_by, one_event, past_tick, stopped_at}
+pub use Rattle.ds_machine.specs.Channels.{channel_step, delayed_past, moved_by, one_event, past_tick}
 pub use Rattle.ds_machine.specs.CountingLaws.{HasShortRun, IsRunning, RunsAfter, RunsWithSome, last_limit, run_of}
 pub use Rattle.ds_machine.specs.DecodedSteps.{operation_outcome}
 pub use Rattle.ds_machine.specs.FenceTicks.{fence_due}
@@ -232,8 +233,8 @@ pub use Rattle.ds_machine.specs.Statuses.{HasBothStatuses, left_by}
 pub use Rattle.ds_machine.specs.SteadyPorts.{is_steady_port}
 pub use Rattle.ds_machine.specs.StepAnswers.{Steps, done_of, stepped_of}
 pub use Rattle.ds_machine.specs.Steps.{due_past_unit, goes_on, gone_by, in_ticks, is_blocked, is_halted, line_of, machine_concluded, machine_settled}
-pub use Rattle.ds_machine.specs.Steps.{map_of, nine_reach, outcome_of, past_unit, processor_of, processor_step, seven_reach, tick_of, wakes, went_on}
-pub use Rattle.ds_machine.specs.Steps.{with_halt, with_io, with_map, with_nine, with_processor, with_seven, woken, woken_one}
+pub use Rattle.ds_machine.specs.Steps.{map_of, nine_reach, outcome_of, past_unit, processor_of, processor_step, seven_reach, stopped_at, tick_of, wakes}
+pub use Rattle.ds_machine.specs.Steps.{went_on, with_halt, with_io, with_map, with_nine, with_processor, with_seven, woken, woken_one}
 unfoldable pub use Rattle.ds_machine.specs.Steps.{ended}
 pub use Rattle.ds_machine.specs.Touched.{CartFile, Cp15, DueNine, DueSeven, OwnRam, PartSet, RegistersNine, RegistersSeven, StepsNine, StepsSeven}
 pub use Rattle.ds_machine.specs.Touched.{machine_graft, step_with, unchanged_by, untouched_by}

@@ -39,17 +39,13 @@ pub record NineReach : Type 0 where
   pub dtcm : List ℕ
   pub now : Tick
 
--- what is read, fetched and written where a tightly coupled memory answers, or past both
-abbrev pub tcm_value : Tcm → NineReach → ℕ → Width → ℕ
-tcm_value (Itcm place) r at width = number_at width r.itcm (aligned_down width place)
-tcm_value (Dtcm place) r at width = number_at width r.dtcm (aligned_down width place)
-tcm_value Past r at width = map_value Nine r.now r.map at width
+-- what is there where a tightly coupled memory answers, or what is past both
+abbrev pub tcm_number : Tcm → NineReach → Width → ℕ → ℕ
+tcm_number (Itcm place) r width past = number_at width r.itcm (aligned_down width place)
+tcm_number (Dtcm place) r width past = number_at width r.dtcm (aligned_down width place)
+tcm_number Past r width past = past
 
-abbrev pub tcm_fetched : Tcm → NineReach → ℕ → Width → ℕ
-tcm_fetched (Itcm place) r at width = number_at width r.itcm (aligned_down width place)
-tcm_fetched (Dtcm place) r at width = number_at width r.dtcm (aligned_down width place)
-tcm_fetched Past r at width = map_fetched Nine r.map at width
-
+-- what is written there
 abbrev pub tcm_written : Tcm → NineReach → ℕ → Width → ℕ → NineReach
 tcm_written (Itcm place) r at width value = record r { itcm = with_number width r.itcm (aligned_down width place) value }
 tcm_written (Dtcm place) r at width value = record r { dtcm = with_number width r.dtcm (aligned_down width place) value }
@@ -67,9 +63,9 @@ tcm_refusal tcm r at width value = None
 -- ARM9's: ITCM, then DTCM, then the map; fetches see ITCM alone
 abbrev pub nine_memory : MemoryMachine NineReach
 nine_memory = record {
-  fetch_value = λ r at width. tcm_fetched (tcm_of r.cp15 at false true) r at width;
+  fetch_value = λ r at width. tcm_number (tcm_of r.cp15 at false true) r width (map_fetched Nine r.map at width);
   fetch_next = λ r at width. r;
-  read_value = λ r at width. tcm_value (tcm_of r.cp15 at false false) r at width;
+  read_value = λ r at width. tcm_number (tcm_of r.cp15 at false false) r width (map_value Nine r.now r.map at width);
   read_next = λ r at width. tcm_read (tcm_of r.cp15 at false false) r at width;
   refusal = λ r at width value. tcm_refusal (tcm_of r.cp15 at true false) r at width value;
   write_next = λ r at width value. tcm_written (tcm_of r.cp15 at true false) r at width value;

@@ -1,4 +1,4 @@
-use Rattle.std.specs.Prelude.{ℕ, ◌+◌, ◌%◌, ◌^◌, true, false, List, [], ◌∷◌, Option, Some, None}
+use Rattle.std.specs.Prelude.{ℕ, ◌+◌, ◌%◌, ◌^◌, true, false, if◌then◌else◌, List, [], ◌∷◌, Option, Some, None, is_some}
 use Rattle.ds_base.specs.Accesses.{Access, Fetch, MemoryMachine, Read, Write}
 use Rattle.ds_base.specs.declared.left_out.Stop.{Stop}
 use Rattle.ds_base.specs.declared.memories.Width.{Width}
@@ -34,8 +34,7 @@ seven_wait r (Write at width value) = wait_at Seven r.map.io.wramcnt at width
 
 -- how long accesses wait that are made one after another; a refused write ends them
 abbrev pub unless_refused : Option Stop → ℕ → ℕ
-unless_refused None waits = waits
-unless_refused (Some stop) waits = 0
+unless_refused refusal waits = if is_some refusal then 0 else waits
 
 abbrev pub waits_of : {S : Type 0} → MemoryMachine S → (S → Access → ℕ) → S → List Access → ℕ
 waits_of m wait s [] = 0

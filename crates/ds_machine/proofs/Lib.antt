@@ -1,8 +1,10 @@
 mod Words
+mod NineReads
 pub mod Apart
 pub mod Touched
 pub mod FastSteps
 pub mod Booting
+pub mod AtBoot
 pub mod ChannelEvents
 pub mod Costs
 pub mod FenceFirsts

@@ -6,7 +6,7 @@ use Rattle.ds_base.specs.declared.ticks.Tick.{Tick}
 use Rattle.ds_map.specs.Moves.{next_unit, unit_moved, unit_refusal}
 use Rattle.ds_runs.specs.Runs.{MachineStep, Makes, Stops}
 use Rattle.ds_machine.specs.States.{MachineState, ProcessorState}
-use Rattle.ds_machine.specs.Steps.{is_halted, map_of, due_past_unit, processor_of, with_map, with_processor}
+use Rattle.ds_machine.specs.Steps.{is_halted, map_of, due_past_unit, processor_of, stopped_at, with_map, with_processor}
 
 -- The event of a DMA channel.
 
@@ -21,9 +21,6 @@ past_tick halted least p = record p { due = if halted then 0 else max p.due leas
 
 abbrev pub delayed_past : Proc → Tick → MachineState → MachineState
 delayed_past proc now s = with_processor proc s (past_tick (is_halted s proc) (due_past_unit s proc now) (processor_of s proc))
-
-abbrev pub stopped_at : ℕ → Tick → Stop → LeftOut
-stopped_at rank now stop = record { kind = stop.kind; tick = now; rank = rank; value = stop.value }
 
 -- by why the write of its unit is refused, on the machine that this left
 abbrev pub moved_by : {O : Type 0} → ℕ → Proc → Tick → Option Stop → MachineState → MachineStep MachineState O LeftOut

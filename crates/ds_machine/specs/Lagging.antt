@@ -1,4 +1,5 @@
 use Rattle.std.specs.Prelude.{ℕ, ◌+◌, ◌*◌, ◌≡◌, ◌≢◌, ◌<◌, ◌≤◌, ◌⊎◌, ◌↔◌, ◌&&◌, ◌||◌, not, Bool, true, false, List, [], ◌∷◌, ◌++◌, Some}
+use Rattle.std.specs.List.{list_any}
 use Rattle.ds_base.specs.Accesses.{Access, Fetch, Read, Write}
 use Rattle.ds_base.specs.declared.left_out.LeftOut.{LeftOut}
 use Rattle.ds_base.specs.declared.processors.Proc.TheVariants.{Nine}
@@ -48,8 +49,7 @@ access_observes r (Read at width) = is_observed_past (tcm_of r.cp15 at false fal
 access_observes r (Write at width value) = is_observed_past (tcm_of r.cp15 at true false) r.map.io.wramcnt at
 
 abbrev pub any_observes : NineReach → List Access → Bool
-any_observes r [] = false
-any_observes r (access ∷ rest) = access_observes r access || any_observes r rest
+any_observes r accesses = list_any (access_observes r) accesses
 
 -- ARM9's next step does, by the accesses that its instruction makes: none where its condition fails, and none where an interrupt is entered
 abbrev pub nine_observes : MachineState → Bool

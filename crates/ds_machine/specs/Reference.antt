@@ -1,4 +1,4 @@
-use Rattle.std.specs.Prelude.{ℕ, ◌&&◌, not, Bool, if◌then◌else◌, List, [], ◌∷◌, map, max, Option, Some, None, Result, Ok, Err}
+use Rattle.std.specs.Prelude.{ℕ, ◌&&◌, not, Bool, if◌then◌else◌, List, [], ◌∷◌, map, slice_get, max, Option, Some, None, option_map, Result, Ok, Err}
 use Rattle.ds_base.specs.declared.keys.KeyLine.{KeyLine}
 use Rattle.ds_base.specs.declared.left_out.LeftOut.{LeftOut}
 use Rattle.ds_base.specs.declared.left_out.Stop.{Stop}
@@ -12,9 +12,9 @@ use Rattle.ds_runs.specs.Actors.{actors, actor_of}
 use Rattle.ds_runs.specs.Runs.{TickMachine, MachineStep, Makes, Stops}
 use Rattle.ds_runs.specs.declared.actors.Actor as actor
 use Rattle.ds_runs.specs.declared.actors.Actor.TheVariants.{KeyScript, Video, Timer, Divider, SquareRoot, Geometry, Card, Dma, Processor}
-use Rattle.ds_machine.specs.Channels.{channel_step, one_event, stopped_at}
+use Rattle.ds_machine.specs.Channels.{channel_step, one_event}
 use Rattle.ds_machine.specs.States.{MachineState, ProcessorState}
-use Rattle.ds_machine.specs.Steps.{ended, is_blocked, processor_of, processor_step, tick_of, with_io, with_processor}
+use Rattle.ds_machine.specs.Steps.{ended, is_blocked, processor_of, processor_step, stopped_at, tick_of, with_io, with_processor}
 use Rattle.gx_geometry.specs.States.{Swapped}
 use Rattle.video2d.specs.Scans.{scan_due, scan_due_tick, starts_vblank}
 use Rattle.video2d.specs.Videos.{video_answer}
@@ -47,8 +47,7 @@ processor_due s proc = due_unless (is_blocked s proc) (processor_of s proc)
 
 -- when the key script's next line is due
 abbrev pub keys_due : List KeyLine → Option Tick
-keys_due [] = None
-keys_due (line ∷ lines) = Some line.tick
+keys_due lines = option_map (λ (line : KeyLine). line.tick) (slice_get lines 0)
 
 -- when an actor is due
 abbrev pub due_by : actor.Actor → MachineState → Option Tick

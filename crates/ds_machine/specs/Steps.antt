@@ -130,13 +130,13 @@ gone_by proc (Cost ticks) s = with_processor proc s (went_on ticks (is_halted s 
 gone_by proc (Halted ticks) s = with_processor proc (with_halt proc s true) (went_on ticks true (processor_of s proc))
 gone_by proc (Left stop) s = s
 
--- what a processor's step needs that is left out
-abbrev pub left_out_by : ℕ → ProcessorState → Stop → LeftOut
-left_out_by rank p stop = record { kind = stop.kind; tick = tick_of p; rank = rank; value = stop.value }
+-- the stop of the actor of a rank at a tick, for what it needs that is left out
+abbrev pub stopped_at : ℕ → Tick → Stop → LeftOut
+stopped_at rank now stop = record { kind = stop.kind; tick = now; rank = rank; value = stop.value }
 
 -- the machine's step, by what the processor came to, on the machine that it left
 abbrev pub machine_concluded : {O : Type 0} → ℕ → Proc → MachineState → arm.Stepped → MachineStep MachineState O LeftOut
-machine_concluded rank proc s (Left stop) = Stops (left_out_by rank (processor_of s proc) stop) s
+machine_concluded rank proc s (Left stop) = Stops (stopped_at rank (tick_of (processor_of s proc)) stop) s
 machine_concluded rank proc s stepped = Makes (gone_by proc stepped s) []
 
 -- its step, at the tick at which it is due

@@ -21,7 +21,8 @@ use Rattle.nds_plays.specs.Cuts.{RunsAreCut}
 use Rattle.nds_plays.specs.States.{ComesBack}
 use Rattle.nds_top.specs.Resumes.{HaveSameFiles, WroteTheRest}
 use Rattle.nds_top.proofs.OneAnswer.{Comes, ResumeWrites, TopLaws, WroteSo, command_told, status_at}
-use Rattle.nds_top.proofs.AtBoot.{booted_parts, keys_rise}
+use Rattle.ds_machine.proofs.AtBoot.{booted_parts}
+use Rattle.nds_top.proofs.KeyScripts.{keys_rise}
 use Rattle.nds_top.proofs.Outcomes.{loaded_comes}
 use Rattle.nds_top.proofs.ResumeOutcomes.{state_comes}
 

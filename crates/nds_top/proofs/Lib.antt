@@ -1,5 +1,5 @@
 mod Words
-mod AtBoot
+mod KeyScripts
 mod OneAnswer
 mod Outcomes
 mod ResumeOutcomes

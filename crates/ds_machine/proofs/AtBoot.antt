@@ -1,14 +1,14 @@
-use Rattle.nds_top.proofs.Words.{ℕ, ◌≡◌, ◌≤◌, ◌<◌, ◌+◌, List, [], length, take, Option, Some, None, refl, sym, ◌∙◌, subst, arith, KeyLine, Proc, Nine}
-use Rattle.nds_top.proofs.Words.{Seven, image_of, image_place, Named, header_bytes, header_place, machine_blank, machine_booted, with_image}
-use Rattle.nds_top.proofs.Words.{HasSoundParts, MachineState, AreKeys}
-use Rattle.std.proofs.Common.{zero, suc, drop, min, true≢false}
+use Rattle.std.proofs.Common.{ℕ, ◌≡◌, ◌≤◌, ◌<◌, ◌+◌, List, length, take, refl, sym, ◌∙◌, subst, arith, zero, suc, drop, min, true≢false}
 use Rattle.std.specs.Int.Bits.{and_zero_l}
 use Rattle.std.proofs.lemmas.List.{length-take}
 use Rattle.ds_base.specs.KeyLines.{AreKeyLines}
+use Rattle.ds_base.specs.declared.keys.KeyLine.{KeyLine}
+use Rattle.ds_base.specs.declared.processors.Proc.{Proc}
+use Rattle.ds_base.specs.declared.processors.Proc.TheVariants.{Nine, Seven}
 use Rattle.ds_dma.specs.Channels.{IsChannel, channel_at_boot}
 use Rattle.ds_dma.specs.Controls.{channel_control_mask, kept_channel_control}
 use Rattle.ds_dma.specs.States.{IsDma, channel_at, dma_at_boot}
-use Rattle.ds_header.specs.Fields.{image_length, image_offset}
+use Rattle.ds_header.specs.Fields.{image_length, image_of, image_offset, image_place}
 use Rattle.ds_header.specs.Rules.{IsAccepted}
 use Rattle.ds_header.proofs.Accepted.{image_goes}
 use Rattle.ds_timers.specs.Timing.{AreTimers, IsTimer, timer_at, timers_at_boot}
@@ -18,6 +18,9 @@ use Rattle.ds_ports.specs.Io.{io_at_boot}
 use Rattle.ds_ports.specs.ProcessorIo.{processor_io_at_boot}
 use Rattle.gx_fifo.specs.GxStates.{AreWaiting, gx_at_boot}
 use Rattle.gx_matrix.specs.CommandTable.{command_of}
+use Rattle.ds_machine.specs.Booted.{header_bytes, header_place, machine_blank, machine_booted, with_image}
+use Rattle.ds_machine.specs.Sound.{HasSoundParts}
+use Rattle.ds_machine.specs.States.{MachineState}
 use Rattle.ds_machine.proofs.Booting.{copied_io, image_lies}
 
 -- The parts of a machine at boot are sound.
@@ -88,13 +91,9 @@ booted_units file lines h =
     ∙ copied_image Nine (machine_blank file lines) file h
 
 -- of an accepted cartridge, with lines that rise
-pub booted_parts : (file : List ℕ) (lines : List KeyLine) → IsAccepted file → AreKeyLines lines → (machine_booted file lines).keys ≡ lines → HasSoundParts (machine_booted file lines)
+pub booted_parts : (file : List ℕ) (lines : List KeyLine) → IsAccepted file → AreKeyLines lines → (machine_booted file lines).keys ≡ lines
+    → HasSoundParts (machine_booted file lines)
 booted_parts file lines h rise keys = record {
   io = subst IsIo (sym (booted_units file lines h)) units_booted;
   keys = subst AreKeyLines (sym keys) rise;
 }
-
--- so do those of a key script
-pub keys_rise : (files : Option (List Named)) (keys : Option (List ℕ)) (lines : List KeyLine) → AreKeys files keys lines → AreKeyLines lines
-keys_rise files None lines are = subst AreKeyLines (sym are) (record { rising = λ at l. absurd (omega (arith, l)); twelve = λ at l. absurd (omega (arith, l)) })
-keys_rise files (Some name) lines are = are.2.good.rise

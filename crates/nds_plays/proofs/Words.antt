@@ -34,8 +34,7 @@ pub use Rattle.nds_words.specs.declared.commands.Keep.TheVariants.{All, Last, No
 pub use Rattle.run_ahead.specs.Consoles.{ConsoleState}
 pub use Rattle.run_ahead.specs.TickTurns.{IsTickBefore}
 unfoldable pub use Rattle.nds_plays.specs.Demos.{body, drawn}
-pub use Rattle.nds_plays.specs.Inside.{ending, shown_after}
+pub use Rattle.nds_plays.specs.Inside.{ending, shown_after, swapped_lists}
 pub use Rattle.nds_plays.specs.Plays.{Wrote}
 pub use Rattle.nds_plays.specs.Records.{Latest, frame_records, kept_records, last_records, latest_after, latest_of, output_of, shown_while}
-pub use Rattle.nds_plays.specs.Records.{swapped_lists}
 pub use Rattle.nds_plays.specs.Watches.{bytes_at, run_lines, step_lines}

@@ -6,7 +6,7 @@ use Rattle.ds_io.specs.Sinks.{Appended, AppendedFront}
 use Rattle.ds_machine.specs.Booted.{machine_booted}
 use Rattle.ds_machine.specs.States.{MachineState}
 use Rattle.run_ahead.specs.Consoles.{ConsoleState}
-use Rattle.run_ahead.specs.Turns.{IsAfterItsTurns}
+use Rattle.run_ahead.specs.Turns.{HasTurned}
 use Rattle.nds_answers.specs.Loads.{IsCart, AreKeys, RefusesRun}
 use Rattle.nds_answers.specs.declared.statuses.Status.{Status}
 use Rattle.nds_answers.specs.declared.statuses.Status.TheVariants.{Done, WriteFault}
@@ -68,6 +68,6 @@ abbrev pub IsSwitchedOn : Option (List Named) → List ℕ → Option (List ℕ)
 IsSwitchedOn files cart keys seat = (file : List ℕ) × (lines : List KeyLine) × IsCart files cart file × AreKeys files keys lines
     × (seat ≡ Some (switched_on (machine_booted file lines)))
 
--- the seat has a console that is as this one after as many turns with the tick as it counts beyond this one's, of which this holds
+-- the seat has a console that is as this one after turns with the tick, of which this holds; it counts as many of them as count
 abbrev pub Seated : Call → ℕ → ConsoleState → (ConsoleState → Type 0) → Type 0
-Seated c ticks start holds = IsSomeAnd c.seat (λ k. IsAfterItsTurns ticks start k × holds k)
+Seated c ticks start holds = IsSomeAnd c.seat (λ k. HasTurned ticks start k × holds k)

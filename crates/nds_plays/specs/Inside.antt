@@ -1,4 +1,4 @@
-use Rattle.std.specs.Prelude.{ℕ, ◌≡◌, ◌≤◌, ◌*◌, Bool, List, [], ◌++◌, length, Option, Some, None, option_to_list, Result, Ok, Err, max}
+use Rattle.std.specs.Prelude.{ℕ, ◌≡◌, ◌≤◌, ◌*◌, if◌then◌else◌, Bool, List, [], ◌∷◌, ◌++◌, length, Option, Some, None, option_to_list, Result, Ok, Err, max}
 use Rattle.ds_base.specs.declared.left_out.LeftOut.{LeftOut}
 use Rattle.ds_io.specs.Faults.{Rose}
 use Rattle.ds_io.specs.Sinks.{Appended, AppendedFront}
@@ -11,9 +11,10 @@ use Rattle.ds_machine.specs.States.{MachineState}
 use Rattle.run_ahead.specs.ToEnd.{TurnsToEnd}
 use Rattle.run_ahead.specs.Turns.{HasTurned}
 use Rattle.run_ahead.specs.Consoles.{ConsoleState}
+use Rattle.gx_geometry.specs.States.{Swapped}
 use Rattle.nds_plays.specs.Plays.{WroteFront}
 use Rattle.nds_records.specs.Lists.{lists_records}
-use Rattle.nds_plays.specs.Records.{Latest, frame_records, latest_records, shown_while, swapped_lists}
+use Rattle.nds_plays.specs.Records.{Latest, frame_records, latest_records, shown_while}
 use Rattle.nds_words.specs.declared.commands.Keep.{Keep}
 use Rattle.nds_words.specs.declared.commands.Keep.TheVariants.{All, Last, Nothing}
 
@@ -42,6 +43,9 @@ shown_after Last latest = latest_records latest
 shown_after Nothing latest = []
 
 -- the records of a machine that just made a frame whole, by whether waiting lists were swapped there
+abbrev pub swapped_lists : Bool → Swapped → List Swapped
+swapped_lists swapped lists = if swapped then lists ∷ [] else []
+
 abbrev pub records_now : Bool → MachineState → List ℕ
 records_now swapped s = frame_records (option_to_list (last_frame s)) ++ lists_records (swapped_lists swapped s.io.gx.geometry.last)
 

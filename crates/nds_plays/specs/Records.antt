@@ -1,4 +1,4 @@
-use Rattle.std.specs.Prelude.{ℕ, Bool, if◌then◌else◌, List, [], ◌∷◌, ◌++◌, map, flat_map, codes, Option, option_to_list}
+use Rattle.std.specs.Prelude.{ℕ, List, [], ◌∷◌, ◌++◌, map, flat_map, codes, Option, option_to_list}
 use Rattle.std.specs.List.{concat, last_or}
 use Rattle.ds_base.specs.declared.left_out.LeftOut.{LeftOut}
 use Rattle.ds_base.specs.declared.left_out.LeftKind.{LeftKind}
@@ -77,11 +77,8 @@ abbrev pub latest_records : Latest → List ℕ
 latest_records latest = frame_records (option_to_list latest.frame) ++ lists_records (option_to_list latest.lists)
 
 -- the records of what one step put out: that of the frame that it made whole, and then, where waiting lists were swapped there, that of those
-abbrev pub swapped_lists : Bool → Swapped → List Swapped
-swapped_lists swapped lists = if swapped then lists ∷ [] else []
-
 abbrev pub shown_records : Shown → List ℕ
-shown_records shown = frame_records (frame_shown shown ∷ []) ++ lists_records (swapped_lists shown.swapped shown.lists)
+shown_records shown = frame_records (frame_shown shown ∷ []) ++ lists_records (lists_shown (shown ∷ []))
 
 -- what is written of a run's frames and lists, by what there was before it and what it put out: all of them, the last frame and then the last lists,
 -- or none. Where it makes no frame whole the one before it is the last, and so it is with lists

@@ -7,8 +7,8 @@ ghost use Rattle.ds_runs.specs.Runs.{At};
 ghost use Rattle.ds_io.specs.Puts.{Puts};
 ghost use Rattle.nds_records.specs.Numbers.{halves};
 ghost use Rattle.nds_records.specs.Lists.{lists_records};
-ghost use Rattle.nds_plays.specs.Inside.{most_after, most_shown, records_now};
-ghost use Rattle.nds_plays.specs.Records.{frame_record, frame_records, latest_of, latest_records, last_records, stop_record, swapped_lists, kind_number};
+ghost use Rattle.nds_plays.specs.Inside.{most_after, most_shown, records_now, swapped_lists};
+ghost use Rattle.nds_plays.specs.Records.{frame_record, frame_records, latest_of, latest_records, last_records, stop_record, kind_number};
 
 use ds_base::{LeftKind, LeftOut, Memory, Proc, Tick, known};
 use ds_io::{Failed, Sink, put_all, put_parts};

@@ -29,7 +29,6 @@ pub use Rattle.nds_words.specs.declared.commands.Keep.{Keep}
 pub use Rattle.run_ahead.specs.Consoles.{ConsoleState}
 pub use Rattle.run_ahead.specs.Saved.{read_state}
 pub use Rattle.run_ahead.specs.ToEnd.{TurnsToEnd}
-pub use Rattle.run_ahead.specs.TurnLaws.{TurnsAddUp}
 pub use Rattle.sha2.specs.Sha256.{sha256}
 pub use Rattle.nds_top.specs.Answers.{CommandGives, Gives, command, nothing}
 pub use Rattle.nds_top.specs.Inside.{RunsSo, played_status}

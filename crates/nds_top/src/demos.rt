@@ -5,12 +5,12 @@ ghost use Rattle.nds_plays.specs.Calls.{around};
 ghost use Rattle.nds_top.specs.ViewAnswers.{DemoGives};
 
 use crate::statuses::status_of;
-use ds_base::{Keys, Tick, known};
+use ds_base::{Keys, Tick};
 use ds_header::Cart;
 use ds_io::{Shelf, Sink};
 use nds_answers::Status;
 use nds_plays::{demo_cart, switch_on};
-use run_ahead::{Console, turn_laws};
+use run_ahead::Console;
 use std::alloc::Global;
 
 /// Runs the cartridge that is made from a number to a tick, and writes what came of it. No file is looked for.
@@ -36,7 +36,6 @@ pub fn demo<F: Shelf, O: Sink>(
         return Status::NoMemory;
     };
     let Some(console) = seat else { unreachable!() };
-    known!(turn_laws());
     let played = nds_plays::demo(console, number, Tick(ticks), out);
     status_of(played)
 }

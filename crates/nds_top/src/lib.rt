@@ -5,10 +5,10 @@
 //!
 //! Proved of `ds_main`, clause `answer` (`Gives`), for every command line, shelf and sink:
 //! - `run`: under Done the sink has what it had, followed by exactly the output of the reference run from boot to the tick and nothing
-//!   else, that run comes to the tick, and the seat has the console that ran it, as after as many turns as it counts, at the run's last
-//!   state; the number of turns in that output is that count. Under LeftOut the same of the run that stops there. Under WriteFault a front
-//!   of that same output, wherever the console came to, and the sink's count of faults rose; the seat's console is as after as many turns
-//!   as it counts. The refusals of files and NoMemory leave the sink as it was and the seat empty.
+//!   else, that run comes to the tick, and the seat has the console that ran it, as after its turns, at the run's last state; the number of
+//!   turns in that output is its count, which has grown by as many of them as count (`run_ahead`'s `turn_laws`). Under LeftOut the same of
+//!   the run that stops there. Under WriteFault a front of that same output, wherever the console came to, and the sink's count of faults
+//!   rose; the seat's console is as after some turns. The refusals of files and NoMemory leave the sink as it was and the seat empty.
 //! - `list`: under Done exactly the listing of the processor's image, by its architecture and from the address on where the header has it
 //!   go; under WriteFault a front of it.
 //! - `asm`: under Done exactly the bytes whose listing the text is, under WriteFault a front; BadText comes exactly where the text is no
@@ -24,8 +24,8 @@
 //! - `save`: exactly the bytes of the console that the reference run comes to at the tick, with the SHA-256 of its cartridge, and they are
 //!   read back as that console; under LeftOut nothing was written; the seat has the console as after `run`.
 //! - `resume`: what `run` writes, of the reference run from the machine that the saved console's file stands for; its last whole frame and
-//!   last lists count where that run makes none, and the count of turns goes on from its own; the seat has the console as after as many turns
-//!   as it counts beyond that. BadState comes exactly where that file isn't accepted for the cartridge's SHA-256 and the tick, with the place
+//!   last lists count where that run makes none, and the count of turns goes on from its own; the seat has the console as after its turns
+//!   from there. BadState comes exactly where that file isn't accepted for the cartridge's SHA-256 and the tick, with the place
 //!   of the first field that isn't whole or breaks its rule, or of the first byte left over.
 //! - `notes` has what it had, followed by the status's line, or by a front of it where its count of faults rose; the name in the line is
 //!   that of the file which the status speaks of.

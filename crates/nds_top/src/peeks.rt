@@ -8,12 +8,12 @@ ghost use Rattle.nds_words.specs.Words.{AskPeek};
 ghost use Rattle.nds_top.specs.Answers.{CommandGives};
 
 use crate::statuses::status_of;
-use ds_base::{Memory, Tick, known};
+use ds_base::{Memory, Tick};
 use ds_io::{Shelf, Sink};
 use nds_answers::Ended;
 use nds_plays::seat_run;
 use nds_words::RunFiles;
-use run_ahead::{Console, turn_laws};
+use run_ahead::Console;
 use std::alloc::Global;
 
 /// Runs a cartridge with the keys of its script to a tick, and writes so many bytes of a memory from a place on, as they are then.
@@ -40,7 +40,6 @@ pub fn peek<'a, F: Shelf, O: Sink>(
         return ended;
     }
     let Some(console) = seat else { unreachable!() };
-    known!(turn_laws());
     let played = nds_plays::peek(console, Tick(ticks), memory, place, count, out);
     let (status, file) = (status_of(played), files.cart);
     Ended { status, file }

@@ -6,12 +6,12 @@ ghost use Rattle.nds_plays.specs.Calls.{around};
 ghost use Rattle.nds_top.specs.RunAnswers.{RunGives};
 ghost use Rattle.nds_top.specs.Inside.{RunsSo};
 
-use ds_base::{Tick, known};
+use ds_base::Tick;
 use ds_io::{Shelf, Sink};
 use nds_answers::{Ended, Status};
 use nds_plays::{Played, play, seat_run};
 use nds_words::{Keep, RunFiles};
-use run_ahead::{Console, turn_laws};
+use run_ahead::Console;
 use std::alloc::Global;
 
 /// Runs a cartridge to a tick, with the keys of its script.
@@ -34,7 +34,6 @@ pub fn run<'a, F: Shelf, O: Sink>(
         return ended;
     }
     let Some(console) = seat else { unreachable!() };
-    known!(turn_laws());
     let status = run_seated(console, ticks, keep, out);
     let file = files.cart;
     Ended { status, file }

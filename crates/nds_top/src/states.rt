@@ -9,12 +9,12 @@ ghost use Rattle.nds_top.specs.StateAnswers.{ResumeGives};
 
 use crate::runs::run_seated;
 use crate::statuses::status_of;
-use ds_base::{Tick, known};
+use ds_base::Tick;
 use ds_io::{Shelf, Sink};
 use nds_answers::{Ended, Status};
 use nds_plays::{clear_seat, seat_resumed, seat_run};
 use nds_words::{Keep, RunFiles};
-use run_ahead::{Console, turn_laws};
+use run_ahead::Console;
 use std::alloc::Global;
 
 /// Runs a cartridge with the keys of its script to a tick, and writes the console as it is then. Where there is no memory for its bytes, no console
@@ -37,7 +37,6 @@ pub fn save<'a, F: Shelf, O: Sink>(
         return ended;
     }
     let Some(console) = seat else { unreachable!() };
-    known!(turn_laws());
     let file = files.cart;
     let Ok(played) = nds_plays::save(alloc, console, Tick(ticks), out) else {
         clear_seat(seat);
@@ -70,7 +69,6 @@ pub fn resume<'a, F: Shelf, O: Sink>(
         return ended;
     }
     let Some(console) = seat else { unreachable!() };
-    known!(turn_laws());
     let status = run_seated(console, ticks, keep, out);
     let file = files.cart;
     Ended { status, file }

@@ -47,7 +47,7 @@ pub use Rattle.run_ahead.specs.Inside.{AreAtOnce, TookStretch, TookTurn}
 pub use Rattle.run_ahead.specs.Saved.{FailsState, IsReadBack, console_of, format_behind, head_of, read_console, state_bytes}
 unfoldable pub use Rattle.run_ahead.specs.Saved.{read_state}
 pub use Rattle.run_ahead.specs.ToEnd.{TurnsToEnd, at_end, counts, meets_stop}
-pub use Rattle.run_ahead.specs.TurnLaws.{GoesOn, RanOn, shown_in, turns_remaining}
+pub use Rattle.run_ahead.specs.TurnLaws.{GoesOn, RanOn, shown_in, turns_in, turns_remaining}
 pub use Rattle.run_ahead.specs.TickTurns.{StopsActing, TakesActing}
 pub use Rattle.run_ahead.specs.Turns.{HasTurned, MeetsStop, StretchStops, TakesEvent, TakesQuiet, TakesStretch, Turns}
-pub use Rattle.run_ahead.specs.Turns.{counted_of, no_turn, one_more_turn, one_turn, run_to, turns_in}
+pub use Rattle.run_ahead.specs.Turns.{counted_of, no_turn, one_more_turn, one_turn, run_to}

@@ -11,7 +11,7 @@ use Rattle.ds_machine.specs.Reference.{Shown, next_shown, reference}
 use Rattle.run_ahead.specs.Consoles.{ConsoleState}
 use Rattle.run_ahead.specs.declared.turns.Turned.{Turned}
 use Rattle.run_ahead.specs.declared.turns.Turned.TheVariants.{Ran, Frame, AtEnd, Stopped}
-use Rattle.run_ahead.specs.Turns.{HasTurned, Turns, counted_of, no_turn, one_turn, turns_in}
+use Rattle.run_ahead.specs.Turns.{HasTurned, Turns, counted_of, no_turn, one_turn}
 
 -- What a turn says of the reference run, how many turns there are, and turns that only ran.
 
@@ -48,7 +48,11 @@ one_if false = 0
 abbrev pub turns_remaining : ℕ → MachineState → ℕ
 turns_remaining until s = 2 * places_remaining 24 until 0 (acting_dues s) + one_if (is_behind until 0 s)
 
--- all turns together add as many to the count of turns as count
+-- how many of a console's turns count, and all of them together add as many to its count of turns
+abbrev pub turns_in : {until : ℕ} {start now : ConsoleState} → HasTurned until start now → ℕ
+turns_in (no_turn start) = 0
+turns_in (one_turn start before now answer earlier last) = counted_of answer + turns_in earlier
+
 abbrev pub TurnsAddUp : Type 0
 TurnsAddUp = (until : ℕ) (start now : ConsoleState) (turned : HasTurned until start now) → now.turns ≡ turns_in turned + start.turns
 

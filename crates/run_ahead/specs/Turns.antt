@@ -45,11 +45,7 @@ pub record TakesQuiet (until : ℕ) (old new : MachineState) : Type 0 where
   pub some : is_behind until 0 old ≡ true
   pub catches : CatchesUp until 0 old new
 
--- an event stops the machine, and leaves this state
-abbrev pub EventStops : ℕ → MachineState → LeftOut → MachineState → Type 0
-EventStops until old left new = (acting : Acts until old (Stops left new)) × (acting.rank < 22)
-
--- or a step of the processor that belongs to its turn, after the steps before it
+-- a step of the processor that belongs to its turn stops the machine, after the steps before it, and leaves this state
 pub record StretchStops (until : ℕ) (old : MachineState) (left : LeftOut) (new : MachineState) : Type 0 where
   pub proc : Proc
   pub tick : Tick
@@ -62,9 +58,9 @@ pub record StretchStops (until : ℕ) (old : MachineState) (left : LeftOut) (new
   pub catches : CatchesUpFor (processor_of before proc).due (rank_of proc) before caught
   pub step : reference_step (rank_of proc) caught ≡ Stops left new
 
--- a turn's step stops the machine
+-- a turn's step stops the machine: an event, or such a step of the processor
 abbrev pub MeetsStop : ℕ → MachineState → LeftOut → MachineState → Type 0
-MeetsStop until old left new = EventStops until old left new ⊎ StretchStops until old left new
+MeetsStop until old left new = ((acting : Acts until old (Stops left new)) × (acting.rank < 22)) ⊎ StretchStops until old left new
 
 -- the machine is this now, and the limit was raised
 abbrev pub run_to : ConsoleState → ℕ → MachineState → ConsoleState
@@ -89,23 +85,12 @@ Turns until old (Stopped left) new =
 
 -- a turn counts where it took a step
 abbrev pub counted_of : Turned → ℕ
-counted_of Ran = 1
-counted_of (Frame swapped) = 1
-counted_of AtEnd = 0
 counted_of (Stopped left) = 0
+counted_of AtEnd = 0
+counted_of answer = 1
 
 -- a console is as it was after some turns with a limit
 pub data HasTurned (until : ℕ) : ConsoleState → ConsoleState → Type 0 where
   no_turn : (start : ConsoleState) → HasTurned until start start
   one_turn : (start before now : ConsoleState) (answer : Turned) → HasTurned until start before → Turns until before answer now
       → HasTurned until start now
-
--- how many of a console's turns count
-abbrev pub turns_in : {until : ℕ} {start now : ConsoleState} → HasTurned until start now → ℕ
-turns_in (no_turn start) = 0
-turns_in (one_turn start before now answer earlier last) = counted_of answer + turns_in earlier
-
--- a console is as it was after as many turns with a limit as its counts say
-pub record IsAfterItsTurns (until : ℕ) (start now : ConsoleState) : Type 0 where
-  pub turned : HasTurned until start now
-  pub counted : turns_in turned + start.turns ≡ now.turns

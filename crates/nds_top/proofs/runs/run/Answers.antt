@@ -20,5 +20,5 @@ returns-clause-answer g c =
       on.2,
       on.3,
       ran_from g.F.Shelf.told g.F.Shelf.faults g.O.Sink.tells g.O.Sink.taken g.O.Sink.faults c.args.shelf.now c.seat_run.new.shelf c.args.out.now c.run_seated-status.new.out
-          c.args.ticks c.args.keep start console c.run_seated-status.result c.turn_laws.ensures.add (λ limit e. at_ticks limit c.args.ticks e) ran,
+          c.args.ticks c.args.keep start console c.run_seated-status.result (λ limit e. at_ticks limit c.args.ticks e) ran,
     )

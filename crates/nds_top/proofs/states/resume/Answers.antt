@@ -16,6 +16,6 @@ returns-clause-answer g c =
       start,
       seated_state _ c.args.state.now c.args.files.cart.now (option_map (λ name. name.now) c.args.files.keys) c.args.ticks c.seat_resumed.new.seat start c.in_default.ensures.ok c.in-Some.is,
       ran_from g.F.Shelf.told g.F.Shelf.faults g.O.Sink.tells g.O.Sink.taken g.O.Sink.faults c.args.shelf.now c.seat_resumed.new.shelf c.args.out.now c.run_seated-status.new.out
-          c.args.ticks c.args.keep start c.run_seated-status.new.console c.run_seated-status.result c.turn_laws.ensures.add (λ limit e. later_limit start.limit limit c.args.ticks open_until.1 e)
+          c.args.ticks c.args.keep start c.run_seated-status.new.console c.run_seated-status.result (λ limit e. later_limit start.limit limit c.args.ticks open_until.1 e)
           c.run_seated-status.ensures,
     )

@@ -15,7 +15,7 @@ returns-clause-answer g c =
     let ready = subst IsIn c.in-Some.is c.in_default.ensures.ready in
     let call = around g.F.Shelf.told g.F.Shelf.faults g.O.Sink.tells g.O.Sink.taken g.O.Sink.faults c.args.shelf.now c.seat_run.new.shelf c.args.out.now c.save.new.out (Some c.save.new.console) in
     let t = saved_in g.F.Shelf.told g.F.Shelf.faults g.O.Sink.tells g.O.Sink.taken g.O.Sink.faults c.args.shelf.now c.seat_run.new.shelf c.args.out.now c.save.new.out
-    c.args.ticks on.0 on.1 c.in-Some.console c.save.new.console c.in-Ok.played c.turn_laws.ensures.add (seated_is _ name keys c.seat_run.new.seat c.in-Some.console on c.in-Some.is)
+    c.args.ticks on.0 on.1 c.in-Some.console c.save.new.console c.in-Ok.played (seated_is _ name keys c.seat_run.new.seat c.in-Some.console on c.in-Some.is)
     ready c.in-Ok.ensures.ok c.in-Ok.ensures.back in
     let P : Status → Type 0 = λ s. GivesBy call name keys (SavedBy call c.args.ticks s) name s in
     let gives : P (played_status c.in-Ok.played) = inl (on.0, on.1, on.2, on.3, t) in

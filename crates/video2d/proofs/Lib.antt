@@ -1,4 +1,5 @@
 mod Words
+pub mod FrameLemmas
 pub mod FrontLemmas
 pub mod LineLemmas
 pub mod PlainLemmas

@@ -30,6 +30,7 @@ mod backgrounds;
 mod compositions;
 mod display_registers;
 mod engines;
+mod frames;
 mod fronts;
 mod laws;
 mod lines;

@@ -1,8 +1,9 @@
-//! Frames: what both screens show.
+//! The pixels of both screens.
 
-ghost use Rattle.std.specs.Prelude.{◌≡◌, ◌≤◌, ◌+◌, IfOk, length};
+ghost use Rattle.std.specs.Prelude.{◌≡◌, ◌<◌, ◌≤◌, ◌+◌, ◌*◌, ◌/◌, ◌==◌, if◌then◌else◌, ℕ, IfOk, length, slice_index};
 ghost use Rattle.ds_base.specs.Numbers.{zeroes};
 ghost use Rattle.video2d.specs.Pictures.{line_laid};
+ghost use Rattle.video2d.specs.rows.Frames.{frame_of, frame_pixel};
 
 use std::alloc::{AllocError, Global};
 use std::marker::Model;
@@ -11,6 +12,12 @@ mod saved;
 
 /// How many pixels both screens have.
 pub const PIXELS: usize = 98_304;
+
+/// How many pixels a line has.
+pub const WIDTH: usize = 256;
+
+/// How many lines both screens have.
+pub const LINES: usize = 384;
 
 /// The pixels of both screens, the upper first.
 #[derive(Drop)]
@@ -35,6 +42,33 @@ fn zeroed(alloc: Global, count: usize) -> Result<Vec<u16>, AllocError>
     ensures long { IfOk result (λ v. length v.items ≡ count) }
 {
     Ok(vec![in alloc; 0; count]?)
+}
+
+/// Copies a line from one frame into another.
+fn copy_line(number: usize, from: &[u16], into: &mut [u16])
+    requires known { number < 384 }
+    requires from { length from.now ≡ 98304 }
+    requires into { length into.old ≡ 98304 }
+    ensures each { (i : ℕ) → i < 98304 → slice_index into.new i ≡ (if i / 256 == number then slice_index from.now i else slice_index into.old i) }
+    ensures long { length into.new ≡ 98304 }
+{
+    for i in WIDTH * number..WIDTH * number + WIDTH {
+        into[i] = from[i];
+    }
+}
+
+/// Copies the lines that aren't fresh from the last whole frame.
+fn fill_rest(fresh: &[bool; LINES], whole: &[u16], drawn: &mut [u16])
+    requires whole { length whole.now ≡ 98304 }
+    requires drawn { length drawn.old ≡ 98304 }
+    ensures each { (i : ℕ) → i < 98304 → slice_index drawn.new i ≡ frame_pixel fresh.now drawn.old whole.now i }
+    ensures long { length drawn.new ≡ 98304 }
+{
+    for number in 0..LINES {
+        if !fresh[number] {
+            copy_line(number, whole, drawn);
+        }
+    }
 }
 
 impl Screens {
@@ -64,10 +98,18 @@ impl Screens {
         self.pixels[place..place + 256].copy_from_slice(line);
     }
 
-    /// Becomes what the other is.
-    pub fn copy(&mut self, other: &Screens)
-        ensures { self.new ≡ other.now }
+    /// Does nothing; its contract tells how many pixels there are.
+    pub fn pixel_laws(&self)
+        ensures { length self.now ≡ 98304 }
     {
-        self.pixels.copy_from_slice(other.pixels());
+        // here the proof learns what is kept
+        let _ = &self.pixels;
+    }
+
+    /// The lines that aren't fresh become those of the last whole frame.
+    pub fn fill_rest(&mut self, fresh: &[bool; LINES], whole: &Screens)
+        ensures { self.new ≡ frame_of fresh.now self.old whole.now }
+    {
+        fill_rest(fresh, whole.pixels(), self.pixels.as_mut_slice());
     }
 }

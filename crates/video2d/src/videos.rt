@@ -1,6 +1,6 @@
 //! The display as a whole.
 
-ghost use Rattle.std.specs.Prelude.{◌≡◌, ◌<◌, ◌≤◌, ◌^◌, ◌+◌, IfOk, IsTrue, IsFalse, length};
+ghost use Rattle.std.specs.Prelude.{◌≡◌, ◌<◌, ◌≤◌, ◌^◌, ◌%◌, ◌+◌, IfOk, IsTrue, IsFalse, length};
 ghost use Rattle.video2d.specs.Kept.{kept_byte};
 ghost use Rattle.video2d.specs.Pictures.{screen_of, line_place};
 ghost use Rattle.video2d.specs.Scans.{scan_due, scan_due_tick, is_drawn_line, framed_by, starts_vblank};
@@ -8,10 +8,10 @@ ghost use Rattle.video2d.specs.Statuses.{status_word};
 ghost use Rattle.video2d.specs.Videos.{video_at_boot, engine_of, status_of, video_shown, video_byte, video_byte_written, video_written, video_stop, drawn_with, video_blanked, video_line_started, video_raised, video_after_event, video_answer};
 
 use crate::engines::{Engine, EngineRegisters};
+use crate::frames::Frames;
 use crate::lines::engine_line;
 use crate::ports::{VideoPort, video_port};
 use crate::scans::Scan;
-use crate::screens::Screens;
 use crate::statuses::{Status, half_byte, with_half_byte};
 use crate::stops::needs_of_line;
 use ds_base::{Proc, Raised, Stop, Tick, Width};
@@ -46,8 +46,7 @@ pub struct Video {
     a: EngineRegisters,
     b: EngineRegisters,
     power: u16,
-    drawn: Screens,
-    whole: Screens,
+    frames: Frames,
 }
 
 impl Model for Video {
@@ -62,8 +61,8 @@ impl Model for Video {
       a = v.a;
       b = v.b;
       power = v.power;
-      drawn = v.drawn;
-      whole = v.whole;
+      drawn = v.frames.drawn;
+      whole = v.frames.whole;
     } };
 }
 
@@ -85,6 +84,7 @@ fn line_place(screen: usize, line: u8) -> usize
     requires drawn { line < 192 }
     ensures value { result ≡ line_place screen line }
     ensures inside { result + 256 ≤ 98304 }
+    ensures whole { result % 256 ≡ 0 }
 {
     256 * (192 * screen + line as usize)
 }
@@ -95,8 +95,7 @@ impl Video {
     pub fn new(alloc: Global) -> Result<Video, AllocError>
         ensures { IfOk result (λ video. video ≡ video_at_boot) }
     {
-        let drawn = Screens::new(alloc)?;
-        let whole = Screens::new(alloc)?;
+        let frames = Frames::new(alloc)?;
         Ok(Video {
             scan: Scan::new(),
             nine: Status::new(),
@@ -104,8 +103,7 @@ impl Video {
             a: EngineRegisters::new(),
             b: EngineRegisters::new(),
             power: 0,
-            drawn,
-            whole,
+            frames,
         })
     }
 
@@ -123,7 +121,7 @@ impl Video {
         ensures value { result.now ≡ self.now.whole }
         ensures long { length result.now ≡ 98304 }
     {
-        self.whole.pixels()
+        self.frames.whole()
     }
 
     /// When the last whole frame became so: at the start of its line 192. None where none is whole yet.
@@ -277,7 +275,7 @@ impl Video {
             &mut row,
         );
         let place = line_place(screen_of(which, self.power), line);
-        self.drawn.lay(place, &row);
+        self.frames.lay(place, &row);
     }
 
     /// A line's H-blank.
@@ -311,7 +309,7 @@ impl Video {
             self.b.start_points();
         }
         if line == 192 {
-            self.whole.copy(&self.drawn);
+            self.frames.finish();
         }
         self.scan.advance();
     }

@@ -8,6 +8,7 @@ ghost use Rattle.video2d.specs.Saved.{VideoIsSaved, video_format};
 
 use crate::engines::saved::take_registers;
 use crate::engines::{Engine, EngineRegisters};
+use crate::frames::Frames;
 use crate::points::Point;
 use crate::scans::Scan;
 use crate::screens::Screens;
@@ -35,8 +36,8 @@ impl Video {
         into.put_u16(self.power)?;
         self.a.pack_points(into)?;
         self.b.pack_points(into)?;
-        self.drawn.pack(into)?;
-        self.whole.pack(into)?;
+        self.frames.pack_drawn(into)?;
+        self.frames.pack_whole(into)?;
         Ok(())
     }
 
@@ -72,8 +73,7 @@ impl Video {
             a: EngineRegisters::of(ports_of_a, two_of_a, three_of_a),
             b: EngineRegisters::of(ports_of_b, two_of_b, three_of_b),
             power,
-            drawn,
-            whole,
+            frames: Frames::of(drawn, whole),
         })
     }
 }

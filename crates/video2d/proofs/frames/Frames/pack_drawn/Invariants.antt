@@ -1,0 +1,6 @@
+use Rattle.video2d.proofs.Words.{◌≡◌, drop, bytes_written, pixel_format}
+use Rattle.ds_state.specs.Formats.{written_each}
+use Rattle.video2d.proofs.frames.Frames.pack_drawn.Given as goal
+
+abbrev pub invariant-loop-i : goal.invariant-loop-i
+invariant-loop-i l = written_each (bytes_written pixel_format) l.into (drop l.i l.self.drawn) ≡ written_each (bytes_written pixel_format) l.fn.into l.self.drawn

@@ -1,11 +1,12 @@
-use Rattle.std.proofs.Common.{ℕ, zero, suc, Bool, true, false, ◌≡◌, ◌≢◌, ◌<◌, ◌≤◌, ◌+◌, ◌⊎◌, ◌==◌, inl, inr, List, length, get_or, set, refl, sym, ◌∙◌, ap, subst, arith}
+use Rattle.std.proofs.Common.{ℕ, zero, suc, Bool, true, false, ◌≡◌, ◌≢◌, ◌<◌, ◌≤◌, ◌+◌, ◌⊎◌, ◌==◌, inl, inr, length, get_or, set, refl, sym, ◌∙◌, ap, subst, arith}
 use Rattle.std.specs.Prelude.{slice_set}
 use Rattle.std.proofs.lemmas.List.{get_or-set_same, get_or-set_other}
 use Rattle.std.proofs.lemmas.Bool.{cases_eq, cases_lt, false≢true}
 use Rattle.obj2d.specs.declared.layers.ObjectLanes.{ObjectLanes}
 use Rattle.obj2d.specs.declared.layers.ObjectPixel.{ObjectPixel}
+use Rattle.obj2d.specs.declared.layers.Spans.{Spans}
 use Rattle.obj2d.specs.ObjectLayer.{SeenObject, with_object, pixel_below}
-use Rattle.obj2d.specs.ObjectLaws.{ArePresent, lanes_pixel, IsBefore, IsFrontObject, IsOf, IsTransparent, IsNone, IsInWindow, IsLayerPixel}
+use Rattle.obj2d.specs.ObjectLaws.{AreInSpans, IsInSpan, lanes_pixel, IsBefore, IsFrontObject, IsOf, IsTransparent, IsNone, IsInWindow, IsLayerPixel}
 
 -- ---- what one more object leaves
 
@@ -27,11 +28,11 @@ placed_before s p opaque shown h = grind (arith, opaque, shown, h)
 placed_behind : (s : SeenObject) (p : ObjectPixel) → s.colour ≢ 0 → s.mode ≢ 2 → p.colour ≢ 0 → p.priority ≤ s.priority → with_object s p ≡ p
 placed_behind s p opaque shown full h = grind (arith, opaque, shown, full, h)
 
--- where a pixel is seen with one more object, its priority is that object's, or it was seen and has the priority that it had
+-- where a pixel is seen with one more object, its priority is that object's, which is seen there, or it was seen and has the priority that it had
 seen_priority : (s : SeenObject) (p : ObjectPixel) → (with_object s p).colour ≢ 0 →
-    ((with_object s p).priority ≡ s.priority) ⊎ ((p.colour ≢ 0) × ((with_object s p).priority ≡ p.priority))
+    (((with_object s p).priority ≡ s.priority) × (s.colour ≢ 0)) ⊎ ((p.colour ≢ 0) × ((with_object s p).priority ≡ p.priority))
 seen_priority s p =
-    let P : ObjectPixel → Type 0 = λ q. q.colour ≢ 0 → (q.priority ≡ s.priority) ⊎ ((p.colour ≢ 0) × (q.priority ≡ p.priority)) in
+    let P : ObjectPixel → Type 0 = λ q. q.colour ≢ 0 → ((q.priority ≡ s.priority) × (s.colour ≢ 0)) ⊎ ((p.colour ≢ 0) × (q.priority ≡ p.priority)) in
     elim (cases_eq s.colour 0) [
       | inl clear ↦ subst P (sym (unseen s p clear)) (λ full. inr (full, refl))
       | inr opaque ↦
@@ -39,43 +40,60 @@ seen_priority s p =
             | inl window ↦ subst P (sym (marked s p opaque window)) (λ full. inr (full, refl))
             | inr shown ↦
                 elim (cases_eq p.colour 0) [
-                  | inl empty ↦ subst P (sym (placed_first s p opaque shown empty)) (λ full. inl refl)
+                  | inl empty ↦ subst P (sym (placed_first s p opaque shown empty)) (λ full. inl (refl, opaque))
                   | inr there ↦
                       elim (cases_lt s.priority p.priority) [
-                        | inl lower ↦ subst P (sym (placed_before s p opaque shown lower)) (λ full. inl refl)
+                        | inl lower ↦ subst P (sym (placed_before s p opaque shown lower)) (λ full. inl (refl, opaque))
                         | inr le ↦ subst P (sym (placed_behind s p opaque shown there le)) (λ full. inr (full, refl))
                       ]
                 ]
           ]
     ]
 
--- so a row with one more object has marks of its priorities, where that object's is marked too
-pub present_more : (seen : ℕ → SeenObject) (before after : ObjectLanes) (present : List Bool) (q : ℕ) → q < length present →
-    ((x : ℕ) → (seen x).priority ≡ q) → ((x : ℕ) → x < 256 → lanes_pixel after x ≡ with_object (seen x) (lanes_pixel before x)) →
-    ArePresent before present → ArePresent after (slice_set present q true)
-present_more seen before after present q known rank laid are x small full =
+-- so a row with one more object is within spans that are wider, and have that object's places
+pub within_more : (seen : ℕ → SeenObject) (before after : ObjectLanes) (old new : Spans) (q start end : ℕ) → ((x : ℕ) → (seen x).priority ≡ q) →
+    ((x : ℕ) → x < 256 → (seen x).colour ≢ 0 → (start ≤ x) × (x < end)) →
+    ((x : ℕ) → x < 256 → lanes_pixel after x ≡ with_object (seen x) (lanes_pixel before x)) →
+    ((x : ℕ) → start ≤ x → x < end → IsInSpan new q x) → ((p x : ℕ) → IsInSpan old p x → IsInSpan new p x) →
+    AreInSpans before old → AreInSpans after new
+within_more seen before after old new q start end rank places laid here kept are x small full =
     let s : SeenObject = seen x in
     let p : ObjectPixel = lanes_pixel before x in
     let e = laid x small in
     let colour : get_or after.colours x 0 ≡ (with_object s p).colour = ap (λ (o : ObjectPixel). o.colour) e in
     let priority : get_or after.priorities x 0 ≡ (with_object s p).priority = ap (λ (o : ObjectPixel). o.priority) e in
+    let P : ℕ → Type 0 = λ n. IsInSpan new n x in
     elim (seen_priority s p (λ z. full (colour ∙ z))) [
-      | inl same ↦
-          ap (λ (n : ℕ). get_or (set present q true) n false) (priority ∙ same ∙ rank x)
-          ∙ get_or-set_same present q true false known
-      | inr was ↦
-          (let old : get_or after.priorities x 0 ≡ get_or before.priorities x 0 = priority ∙ was.1 in
-          let there : get_or present (get_or before.priorities x 0) false ≡ true = are x small was.0 in
-          elim (cases_eq (get_or before.priorities x 0) q) [
-            | inl same ↦
-                ap (λ (n : ℕ). get_or (set present q true) n false) (old ∙ same)
-                ∙ get_or-set_same present q true false known
-            | inr other ↦
-                ap (λ (n : ℕ). get_or (set present q true) n false) old
-                ∙ get_or-set_other present q (get_or before.priorities x 0) true false other
-                ∙ there
-          ])
+      | inl fresh ↦
+          (let there = places x small fresh.1 in
+          subst P (sym (priority ∙ fresh.0 ∙ rank x)) (here x there.0 there.1))
+      | inr was ↦ subst P (sym (priority ∙ was.1)) (kept (get_or before.priorities x 0) x (are x small was.0))
     ]
+
+-- a span that is wider
+
+-- the first place of each priority is no higher than it was, and the one behind the last no lower
+pub wider : (old new : Spans) (q first end : ℕ) → q < length old.first → q < length old.end → new ≡ record { first = slice_set old.first q first; end = slice_set old.end q end }
+    → first ≤ get_or old.first q 0 → get_or old.end q 0 ≤ end → (p x : ℕ) → IsInSpan old p x → IsInSpan new p x
+wider old new q first end k l is low high p x h =
+    let P : Spans → Type 0 = λ s. IsInSpan s p x in
+    let from = h.0 in
+    let to = h.1 in
+    subst P (sym is) (elim (cases_eq p q) [
+      | inl same ↦
+          (let Q : ℕ → Type 0 = λ n. (get_or (set old.first q first) n 0 ≤ x) × (x < get_or (set old.end q end) n 0) in
+          let R : ℕ → Type 0 = λ n. (get_or old.first n 0 ≤ x) × (x < get_or old.end n 0) in
+          let was = subst R same h in
+          let was_from = was.0 in
+          let was_to = was.1 in
+          let a = get_or-set_same old.first q first 0 k in
+          let b = get_or-set_same old.end q end 0 l in
+          subst Q (sym same) (omega (arith, a, low, was_from), omega (arith, b, high, was_to)))
+      | inr other ↦
+          (let a = get_or-set_other old.first q p first 0 other in
+          let b = get_or-set_other old.end q p end 0 other in
+          (omega (arith, a, from), omega (arith, b, to)))
+    ])
 
 -- ---- the first object of one more
 

@@ -1,4 +1,4 @@
-use Rattle.std.proofs.Common.{ℕ, Bool, true, false, ◌≡◌, ◌≢◌, ◌<◌, ◌≤◌, ◌+◌, ◌-◌, ◌*◌, ◌/◌, ◌%◌, ◌^◌, ◌==◌, inl, inr, List, get_or, refl, sym, ◌∙◌, ap, subst, arith}
+use Rattle.std.proofs.Common.{ℕ, Bool, true, false, ◌≡◌, ◌≢◌, ◌<◌, ◌≤◌, ◌+◌, ◌-◌, ◌*◌, ◌/◌, ◌%◌, ◌^◌, ◌==◌, ◌&&◌, inl, inr, List, get_or, refl, sym, ◌∙◌, ap, subst, arith}
 use Rattle.std.specs.Prelude.{nat_lt, if◌then◌else◌}
 use Rattle.std.proofs.lemmas.Bool.{cases_eq, cases_lt, cases_Bool, agree_below_at, eqb-true, ltb-true, lt-ltb, le-ltb}
 use Rattle.vram_banks.specs.Cells.{Banks, vram_byte}
@@ -252,25 +252,51 @@ after_span left n x a small b = elim (cases_lt left 256) [
       (ap (λ (k : ℕ). if nat_lt (n - span_first left) (256 - k) then n - span_first left else 256 - k) (start_high left (omega (arith, high))))
 ]
 
+-- a place that the box has on the screen is one of the span
+covered_low : (left x first start count : ℕ) → left < 256 → x < 256 → first ≡ 0 → start ≡ left → count ≤ 256 - left →
+    (x + 512 - left) % 512 < first + count → (start ≤ x) × (x < start + count)
+covered_low left x first start count low small e f c h = (omega (arith, low, small, e, f, c, h), omega (arith, low, small, e, f, c, h))
+
+covered_high : (left x first start count : ℕ) → 256 ≤ left → left < 512 → x < 256 → first ≡ 512 - left → start ≡ 0 →
+    (x + 512 - left) % 512 < first + count → (start ≤ x) × (x < start + count)
+covered_high left x first start count high a small e f h = (omega (arith, f), omega (arith, high, a, small, e, f, h))
+
+span_count_below : (left n : ℕ) → span_count left n ≤ 256 - span_start left
+span_count_below left n = elim (cases_lt (n - span_first left) (256 - span_start left)) [
+  | inl less ↦ (let d = lesser_first (n - span_first left) (256 - span_start left) less in omega (arith, d, less))
+  | inr more ↦ (let d = lesser_second (n - span_first left) (256 - span_start left) (omega (arith, more)) in omega (arith, d))
+]
+
+pub covered : (left n x : ℕ) → left < 512 → n ≤ 128 → x < 256 → (x + 512 - left) % 512 < n →
+    (span_start left ≤ x) × (x < span_start left + span_count left n)
+covered left n x a small b h =
+    let at : ℕ = (x + 512 - left) % 512 in
+    let e = after_span left n x a small b in
+    let within : at < span_first left + span_count left n = (let f = e in grind (arith, f, h)) in
+    elim (cases_lt left 256) [
+      | inl low ↦
+          (let s = start_low left low in
+          let c = span_count_below left n in
+          covered_low left x (span_first left) (span_start left) (span_count left n) low b (first_low left low) s (omega (arith, s, c)) within)
+      | inr high ↦
+          (let le : 256 ≤ left = omega (arith, high) in
+          covered_high left x (span_first left) (span_start left) (span_count left n) le a b (first_high left le) (start_high left le) within)
+    ]
+
 -- a place of the span
 pub span_place : (left n i : ℕ) → left < 512 → i < span_count left n → span_start left + i ≡ (left + (span_first left + i)) % 512
 span_place left n i a h = elim (cases_lt left 256) [
   | inl low ↦
       (let e = first_low left low in
       let f = start_low left low in
-      let c = count_below left n in
+      let c = span_count_below left n in
       omega (arith, e, f, c, h, low))
   | inr high ↦
       (let e = first_high left (omega (arith, high)) in
       let f = start_high left (omega (arith, high)) in
-      let c = count_below left n in
+      let c = span_count_below left n in
       omega (arith, e, f, c, h, high, a))
-] where
-  count_below : (left n : ℕ) → span_count left n ≤ 256 - span_start left
-  count_below left n = elim (cases_lt (n - span_first left) (256 - span_start left)) [
-    | inl less ↦ (let d = lesser_first (n - span_first left) (256 - span_start left) less in omega (arith, d, less))
-    | inr more ↦ (let d = lesser_second (n - span_first left) (256 - span_start left) (omega (arith, more)) in omega (arith, d))
-  ]
+]
 
 pub placed_span : (o : Object) (left n first start count i : ℕ) → left ≡ left_edge o → first ≡ span_first left → start ≡ span_start left → count ≡ span_count left n →
     i < count → start + i ≡ (left_edge o + (first + i)) % 512
@@ -363,3 +389,24 @@ drawn v palette oam display line number o y pixels before after e on there are l
     let Q : ℕ → Type 0 = λ (n : ℕ). AreBox v palette oam display o n pixels in
     let seen : P o = subst P (sym e) (strip_is_seen v palette oam display line number x pixels) in
     laid x small ∙ ap (λ (s : SeenObject). with_object s (before x)) (seen on (subst Q there are))
+
+seen_across : (drawn inside : Bool) (pixel : ℕ) → (if drawn && inside then pixel else 0) ≢ 0 → inside ≡ true
+seen_across true true pixel full = refl
+seen_across true false pixel full = absurd (full refl)
+seen_across false inside pixel full = absurd (full refl)
+
+-- where an object is seen, the place is one of its span
+pub seen_covered : (v : Banks) (palette oam : List ℕ) (display : Display) (line number x left n start count : ℕ) → x < 256 →
+    left ≡ left_edge (object_at oam number) → n ≡ box_width (object_at oam number) → n ≤ 128 → start ≡ span_start left → count ≡ span_count left n →
+    (seen_at v palette oam display line x number).colour ≢ 0 → (start ≤ x) × (x < start + count)
+unfolding seen_at pixel_of
+seen_covered v palette oam display line number x left n start count small is_left is_n few is_start is_count full =
+    let o = object_at oam number in
+    let there : nat_lt (across o x) (box_width o) ≡ true = seen_across _ (nat_lt (across o x) (box_width o)) _ full in
+    let h : across o x < n = grind (arith, there, is_n) in
+    let a : left < 512 = omega (arith, is_left) in
+    let P : ℕ → Type 0 = λ k. (x + 512 - k) % 512 < n in
+    let c = covered left n x a few small (subst P (sym is_left) h) in
+    let from = c.0 in
+    let to = c.1 in
+    (omega (arith, is_start, from), omega (arith, is_start, is_count, to))

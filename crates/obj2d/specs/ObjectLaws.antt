@@ -1,6 +1,7 @@
-use Rattle.std.specs.Prelude.{ℕ, Bool, true, false, ◌≡◌, ◌≢◌, ◌<◌, ◌≤◌, ◌^◌, ◌↔◌, ◌⊎◌, ◌==◌, List, slice_index, slice_index_or, IsTrue}
+use Rattle.std.specs.Prelude.{ℕ, false, ◌≡◌, ◌≢◌, ◌<◌, ◌≤◌, ◌^◌, ◌↔◌, ◌⊎◌, ◌==◌, List, slice_index, slice_index_or, IsTrue}
 use Rattle.obj2d.specs.declared.layers.ObjectPixel.{ObjectPixel}
 use Rattle.obj2d.specs.declared.layers.ObjectLanes.{ObjectLanes}
+use Rattle.obj2d.specs.declared.layers.Spans.{Spans}
 use Rattle.obj2d.specs.ObjectLayer.{SeenObject, blank_pixel}
 
 -- A row of objects pixel by pixel, each told by the objects of the list: what each pixel of a row is.
@@ -17,9 +18,13 @@ lanes_pixel row x = record {
   window = slice_index row.windows x == 1;
 }
 
--- where an object is seen, its priority is among those that are present
-abbrev pub ArePresent : ObjectLanes → List Bool → Type 0
-ArePresent row present = (x : ℕ) → x < 256 → slice_index row.colours x ≢ 0 → slice_index_or present (slice_index row.priorities x) false ≡ true
+-- a place is within the span of a priority
+abbrev pub IsInSpan : Spans → ℕ → ℕ → Type 0
+IsInSpan spans priority x = (slice_index spans.first priority ≤ x) × (x < slice_index spans.end priority)
+
+-- where an object is seen, the place is within the span of its priority
+abbrev pub AreInSpans : ObjectLanes → Spans → Type 0
+AreInSpans row spans = (x : ℕ) → x < 256 → slice_index row.colours x ≢ 0 → IsInSpan spans (slice_index row.priorities x) x
 
 -- ---- as a relation
 

@@ -6,7 +6,7 @@ ghost use Rattle.obj2d.specs.Attributes.{object_at, box_width, priority, mode, o
 ghost use Rattle.obj2d.specs.Places.{covers, IsSomeDrawn};
 ghost use Rattle.obj2d.specs.ObjectLaws.{IsLayerPixel, IsPixel, pixel_at};
 ghost use Rattle.obj2d.specs.ObjectLayer.{blank_pixel, with_object, seen_at, object_pixel};
-ghost use Rattle.obj2d.specs.ObjectLaws.{ArePresent, lanes_pixel};
+ghost use Rattle.obj2d.specs.ObjectLaws.{AreInSpans, IsInSpan, lanes_pixel};
 ghost use Rattle.obj2d.specs.rows.Strips.{AreNotDrawn, IsLaid};
 
 use crate::attributes::{box_width, mode, object_at, object_has_mosaic, priority};
@@ -51,6 +51,50 @@ pub struct ObjectLanes {
     pub windows: [u16; 256],
 }
 
+/// Where along a line objects of each priority may be seen: from one place on and before another, if the second is behind the first.
+#[derive(Clone, Copy)]
+pub struct Spans {
+    /// From which place on.
+    pub first: [usize; 4],
+    /// Before which place.
+    pub end: [usize; 4],
+}
+
+/// No object is seen anywhere.
+pub fn no_spans() -> Spans
+    ensures { (priority : ℕ) → priority < 4 → slice_index result.end priority ≡ 0 }
+{
+    Spans {
+        first: [256; 4],
+        end: [0; 4],
+    }
+}
+
+/// The places from one on and before another are within the span of a priority too. It begins and ends with whole eights, so that eight places are
+/// reached at once.
+fn widen(priority: usize, start: usize, end: usize, spans: &mut Spans)
+    requires known { priority < 4 }
+    requires small { end ≤ 256 }
+    ensures here { (x : ℕ) → start ≤ x → x < end → IsInSpan spans.new priority x }
+    ensures kept { (p x : ℕ) → IsInSpan spans.old p x → IsInSpan spans.new p x }
+{
+    let first = spans.first[priority].min(start / 8 * 8);
+    let behind = spans.end[priority].max((end + 7) / 8 * 8);
+    spans.first[priority] = first;
+    spans.end[priority] = behind;
+}
+
+/// From which place on and before which one objects of a priority may be seen.
+pub fn span_of(spans: &Spans, priority: u8) -> (usize, usize)
+    requires { priority < 4 }
+    ensures order { result.0 ≤ result.1 }
+    ensures small { result.1 ≤ 256 }
+    ensures all { (x : ℕ) → x < 256 → IsInSpan spans.now priority x → (result.0 ≤ x) × (x < result.1) }
+{
+    let end = spans.end[priority as usize].min(256);
+    (spans.first[priority as usize].min(end), end)
+}
+
 /// Lays the pixels of an object that is shown.
 fn lay_shown(object: &Object, pixels: &[u16; 128], into: &mut ObjectLanes)
     requires { mode object.now ≢ 2 }
@@ -88,7 +132,7 @@ fn lay(object: &Object, pixels: &[u16; 128], into: &mut ObjectLanes)
     }
 }
 
-/// Draws one object over the row, and marks its priority. `palette` is there for the contract.
+/// Draws one object over the row, and widens the span of its priority. `palette` is there for the contract.
 fn draw(
     vram: &Vram,
     palette: &[u8],
@@ -98,16 +142,16 @@ fn draw(
     line: u8,
     number: usize,
     into: &mut ObjectLanes,
-    present: &mut [bool; 4],
+    spans: &mut Spans,
 )
     requires narrow { IsTable false palette.now tables.now.narrow }
     requires wide { IsTable true palette.now tables.now.wide }
     requires oam { length oam.now ≡ 1024 }
     requires known { number < 128 }
-    requires present { ArePresent into.old present.old }
+    requires within { AreInSpans into.old spans.old }
     ensures row { (x : ℕ) → x < 256 → lanes_pixel into.new x
         ≡ with_object (seen_at vram.now palette.now oam.now display.now line x number) (lanes_pixel into.old x) }
-    ensures present { ArePresent into.new present.new }
+    ensures within { AreInSpans into.new spans.new }
 {
     if is_drawn_at(oam, display.control, line, number) {
         let object = object_at(oam, number);
@@ -115,7 +159,13 @@ fn draw(
         let y = down(&object, line);
         strip(vram, palette, oam, display, tables, &object, y, &mut pixels);
         lay(&object, &pixels, into);
-        present[priority(&object) as usize] = true;
+        let span = on_screen(left_edge(&object), box_width(&object));
+        widen(
+            priority(&object) as usize,
+            span.start,
+            span.start + span.count,
+            spans,
+        );
     }
 }
 
@@ -148,7 +198,7 @@ pub fn is_mosaic_object(oam: &[u8], number: usize) -> bool
     object_has_mosaic(&object_at(oam, number))
 }
 
-/// Draws all objects over a row where none is, of which those before `first` aren't drawn on the line, and marks the priorities of those that are.
+/// Draws all objects over a row where none is, of which those before `first` aren't drawn on the line, and widens the spans of those that are.
 /// `palette` is there for the contract.
 fn lay_all(
     vram: &Vram,
@@ -159,7 +209,7 @@ fn lay_all(
     line: u8,
     first: usize,
     into: &mut ObjectLanes,
-    present: &mut [bool; 4],
+    spans: &mut Spans,
 )
     requires narrow { IsTable false palette.now tables.now.narrow }
     requires wide { IsTable true palette.now tables.now.wide }
@@ -168,16 +218,16 @@ fn lay_all(
     requires before { AreNotDrawn oam.now display.now.control line first }
     requires blank { (x : ℕ) → x < 256 → lanes_pixel into.old x ≡ blank_pixel }
     ensures row { (x : ℕ) → x < 256 → lanes_pixel into.new x ≡ object_pixel vram.now palette.now oam.now display.now line x }
-    ensures present { ArePresent into.new present.new }
+    ensures within { AreInSpans into.new spans.new }
 {
     for number in first..128 {
         draw(
-            vram, palette, oam, display, tables, line, number, into, present,
+            vram, palette, oam, display, tables, line, number, into, spans,
         );
     }
 }
 
-/// Draws the row of all objects, of which those before `first` aren't drawn on the line, and marks the priorities of those that are.
+/// Draws the row of all objects, of which those before `first` aren't drawn on the line, and widens the spans of those that are.
 fn draw_row(
     vram: &Vram,
     palette: &[u8],
@@ -186,14 +236,14 @@ fn draw_row(
     line: u8,
     first: usize,
     into: &mut ObjectLanes,
-    present: &mut [bool; 4],
+    spans: &mut Spans,
 )
     requires colours { length palette.now ≡ 512 }
     requires oam { length oam.now ≡ 1024 }
     requires small { first ≤ 128 }
     requires before { AreNotDrawn oam.now display.now.control line first }
     ensures row { (x : ℕ) → x < 256 → lanes_pixel into.new x ≡ object_pixel vram.now palette.now oam.now display.now line x }
-    ensures present { ArePresent into.new present.new }
+    ensures within { AreInSpans into.new spans.new }
 {
     clear(into);
     let mut tables = Tables {
@@ -202,7 +252,7 @@ fn draw_row(
     };
     fill_tables(palette, &mut tables);
     lay_all(
-        vram, palette, oam, display, &tables, line, first, into, present,
+        vram, palette, oam, display, &tables, line, first, into, spans,
     );
 }
 
@@ -255,22 +305,15 @@ pub fn object_row(
     let display = Display { engine, control };
     let first = first_drawn(oam, control, line);
     let mut row = no_objects();
-    let mut present = [false; 4];
+    let mut spans = no_spans();
     draw_row(
-        vram,
-        palette,
-        oam,
-        &display,
-        line,
-        first,
-        &mut row,
-        &mut present,
+        vram, palette, oam, &display, line, first, &mut row, &mut spans,
     );
     hand_out(&row, into);
 }
 
 /// Draws the same in rows of lanes, where some object is drawn on the line, and tells whether one is. Where none is, no pixel is of an object, and
-/// `into` stays. `present` tells of each priority whether an object that is drawn has it, which those that are seen have.
+/// `into` stays. `spans` is widened to where those that are seen are, by their priorities.
 pub fn object_lanes(
     vram: &Vram,
     palette: &[u8],
@@ -279,14 +322,14 @@ pub fn object_lanes(
     engine: u8,
     line: u8,
     into: &mut ObjectLanes,
-    present: &mut [bool; 4],
+    spans: &mut Spans,
 ) -> bool
     requires colours { length palette.now ≡ 512 }
     requires oam { length oam.now ≡ 1024 }
     ensures some { IsTrue result → IsSomeDrawn oam.now control line }
     ensures row { IsTrue result → (x : ℕ) → x < 256 → lanes_pixel into.new x
         ≡ object_pixel vram.now palette.now oam.now (record { engine = engine; control = control }) line x }
-    ensures present { IsTrue result → ArePresent into.new present.new }
+    ensures within { IsTrue result → AreInSpans into.new spans.new }
     ensures none { IsFalse result → (x : ℕ) → x < 256
         → object_pixel vram.now palette.now oam.now (record { engine = engine; control = control }) line x ≡ blank_pixel }
     ensures stays { IsFalse result → into.new ≡ into.old }
@@ -296,6 +339,6 @@ pub fn object_lanes(
     if first == 128 {
         return false;
     }
-    draw_row(vram, palette, oam, &display, line, first, into, present);
+    draw_row(vram, palette, oam, &display, line, first, into, spans);
     true
 }

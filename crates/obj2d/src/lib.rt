@@ -8,7 +8,7 @@
 //! `object_pixel`, object laid over object (clause `value`); that is the pixel of the opaque object that isn't of mode 2 with the least
 //! priority and, of those, the least number, or a blank one, and the place lies in the object window exactly where an object of mode 2 is
 //! opaque (`stands`); an opaque pixel has bit 15 set, a blank one neither priority nor blending (`form`). `object_lanes`: the same in rows of
-//! lanes (`row`), with the priorities that objects which are seen have (`present`). `covers_line` tells exactly
+//! lanes (`row`), with the places that objects of each priority are within (`within`), of which `span_of` tells two ends. `covers_line` tells exactly
 //! whether an object covers a line, whatever its mode; `object_mode` and `is_mosaic_object` read its mode and its mosaic bit. No call takes
 //! memory.
 //!
@@ -27,6 +27,6 @@ mod strips;
 mod tables;
 
 pub use layers::{
-    ObjectLanes, ObjectPixel, ObjectRow, covers_line, is_mosaic_object, no_objects, object_lanes,
-    object_mode, object_row,
+    ObjectLanes, ObjectPixel, ObjectRow, Spans, covers_line, is_mosaic_object, no_objects,
+    no_spans, object_lanes, object_mode, object_row, span_of,
 };

@@ -3,6 +3,7 @@ pub mod FrameLemmas
 pub mod FrontLemmas
 pub mod LineLemmas
 pub mod PlainLemmas
+pub mod SpanLemmas
 pub mod StopLemmas
 pub mod Framed
 pub mod Colours

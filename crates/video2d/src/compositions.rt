@@ -2,7 +2,7 @@
 
 ghost use Rattle.std.specs.Prelude.{◌≡◌, ◌<◌, ◌≤◌, ◌==◌, ℕ, length, slice_index};
 ghost use Rattle.obj2d.specs.ObjectLayer.{blank_pixel, object_pixel};
-ghost use Rattle.obj2d.specs.ObjectLaws.{ArePresent, lanes_pixel};
+ghost use Rattle.obj2d.specs.ObjectLaws.{AreInSpans, lanes_pixel};
 ghost use Rattle.vram_banks.specs.Colours.{palette_colour};
 ghost use Rattle.video2d.specs.Layers.{seen_objects, shown_through};
 ghost use Rattle.video2d.specs.Pictures.{display_of, layered_pixel};
@@ -15,7 +15,7 @@ use crate::engines::{Engine, EngineRegisters};
 use crate::fronts::{Fronts, lay_front, lay_front_objects, start_fronts};
 use crate::mixes::{finish_line, laid_as, priority};
 use crate::windows::{ShownLine, find_shown, hide};
-use obj2d::{ObjectLanes, no_objects, object_lanes};
+use obj2d::{ObjectLanes, Spans, no_objects, no_spans, object_lanes, span_of};
 use vram_banks::{Row, Vram, palette_colour};
 
 /// Lays background n as the line's windows show it, where it has the priority whose turn it is.
@@ -47,22 +47,21 @@ fn lay_background_front(
     }
 }
 
-/// Lays the objects of the priority whose turn it is, where it is among those that are present.
+/// Lays the objects of the priority whose turn it is, where they may be seen.
 fn lay_objects_front(
     engine: &EngineRegisters,
     objects: &ObjectLanes,
-    present: &[bool; 4],
+    spans: &Spans,
     turn: u8,
     into: &mut Fronts,
 )
-    requires present { ArePresent objects.now present.now }
+    requires within { AreInSpans objects.now spans.now }
     requires known { turn < 4 }
     ensures { (x : ℕ) → x < 256 → front_at into.new x
         ≡ put_at engine.now turn (seen_objects (lanes_pixel objects.now x)) (front_at into.old x) }
 {
-    if present[turn as usize] {
-        lay_front_objects(objects, turn, laid_as(engine, 4), into);
-    }
+    let (first, end) = span_of(spans, turn);
+    lay_front_objects(objects, turn, first, end, laid_as(engine, 4), into);
 }
 
 /// Lays all layers of a priority, of which the objects are in front, and a background of a lower number in front of one of a higher.
@@ -74,12 +73,12 @@ fn lay_turn_front(
     line: u8,
     shown: &ShownLine,
     objects: &ObjectLanes,
-    present: &[bool; 4],
+    spans: &Spans,
     turn: u8,
     into: &mut Fronts,
 )
     requires colours { length colours.now ≡ 512 }
-    requires present { ArePresent objects.now present.now }
+    requires within { AreInSpans objects.now spans.now }
     requires known { turn < 4 }
     ensures { (x : ℕ) → x < 256 → front_at into.new x
         ≡ put_turn engine.now turn
@@ -89,7 +88,7 @@ fn lay_turn_front(
     lay_background_front(vram, colours, which, engine, line, shown, 2, turn, into);
     lay_background_front(vram, colours, which, engine, line, shown, 1, turn, into);
     lay_background_front(vram, colours, which, engine, line, shown, 0, turn, into);
-    lay_objects_front(engine, objects, present, turn, into);
+    lay_objects_front(engine, objects, spans, turn, into);
 }
 
 /// Lays all layers over the backdrop.
@@ -102,31 +101,31 @@ fn lay_fronts(
     line: u8,
     shown: &ShownLine,
     objects: &ObjectLanes,
-    present: &[bool; 4],
+    spans: &Spans,
     into: &mut Fronts,
 )
     requires colours { length colours.now ≡ 512 }
-    requires present { ArePresent objects.now present.now }
+    requires within { AreInSpans objects.now spans.now }
     ensures { (x : ℕ) → x < 256 → front_at into.new x
         ≡ put_all engine.now (palette_colour colours.now 0)
         (layers_through vram.now colours.now which engine.now line (shown_bits_at shown.now x) (lanes_pixel objects.now x) x) }
 {
     start_fronts(palette_colour(colours, 0), laid_as(engine, 5), into);
     lay_turn_front(
-        vram, colours, which, engine, line, shown, objects, present, 3, into,
+        vram, colours, which, engine, line, shown, objects, spans, 3, into,
     );
     lay_turn_front(
-        vram, colours, which, engine, line, shown, objects, present, 2, into,
+        vram, colours, which, engine, line, shown, objects, spans, 2, into,
     );
     lay_turn_front(
-        vram, colours, which, engine, line, shown, objects, present, 1, into,
+        vram, colours, which, engine, line, shown, objects, spans, 1, into,
     );
     lay_turn_front(
-        vram, colours, which, engine, line, shown, objects, present, 0, into,
+        vram, colours, which, engine, line, shown, objects, spans, 0, into,
     );
 }
 
-/// Draws the objects of a line into rows where none is, and tells which priorities are present.
+/// Draws the objects of a line into rows where none is, and tells where they may be seen.
 fn draw_objects(
     vram: &Vram,
     object_colours: &[u8],
@@ -135,16 +134,16 @@ fn draw_objects(
     engine: &EngineRegisters,
     line: u8,
     into: &mut ObjectLanes,
-) -> [bool; 4]
+) -> Spans
     requires object_colours { length object_colours.now ≡ 512 }
     requires oam { length oam.now ≡ 1024 }
     requires blank { (x : ℕ) → x < 256 → lanes_pixel into.old x ≡ blank_pixel }
     ensures row { (x : ℕ) → x < 256 → lanes_pixel into.new x
         ≡ object_pixel vram.now object_colours.now oam.now (display_of which engine.now) line x }
-    ensures present { ArePresent into.new result }
+    ensures within { AreInSpans into.new result }
 {
     let control = engine.dispcnt();
-    let mut present = [false; 4];
+    let mut spans = no_spans();
     object_lanes(
         vram,
         object_colours,
@@ -153,9 +152,9 @@ fn draw_objects(
         which.number(),
         line,
         into,
-        &mut present,
+        &mut spans,
     );
-    present
+    spans
 }
 
 /// Draws the line of an engine's layers, with windows, objects and effects. `colours` and `object_colours` have the 512 bytes of its palettes for
@@ -176,7 +175,7 @@ pub fn composed_line(
     ensures { (x : ℕ) → x < 256 → slice_index into.new x ≡ layered_pixel vram.now colours.now object_colours.now oam.now which engine.now line x }
 {
     let mut objects = no_objects();
-    let present = draw_objects(vram, object_colours, oam, which, engine, line, &mut objects);
+    let spans = draw_objects(vram, object_colours, oam, which, engine, line, &mut objects);
     let mut shown = ShownLine {
         all: false,
         bits: [0; 256],
@@ -196,7 +195,7 @@ pub fn composed_line(
         line,
         &shown,
         &objects,
-        &present,
+        &spans,
         &mut fronts,
     );
     finish_line(engine, &shown, &fronts, into);

@@ -2,7 +2,7 @@
 
 ghost use Rattle.std.specs.Prelude.{◌≡◌, ◌<◌, ◌≤◌, ◌^◌, ◌==◌, if◌then◌else◌, ℕ, slice_index};
 ghost use Rattle.obj2d.specs.ObjectLaws.{lanes_pixel};
-ghost use Rattle.video2d.specs.rows.Fronts.{front_at, front_kind, front_over, mark_blended, objects_over, started};
+ghost use Rattle.video2d.specs.rows.Fronts.{AreBetween, front_at, front_kind, front_over, mark_blended, objects_over, started};
 
 use crate::rows::chosen;
 use obj2d::ObjectLanes;
@@ -86,13 +86,23 @@ pub fn lay_front(row: &[u16; 256], laid: Laid, into: &mut Fronts)
     }
 }
 
-/// Lays the objects of the priority whose turn it is.
-pub fn lay_front_objects(objects: &ObjectLanes, turn: u8, laid: Laid, into: &mut Fronts)
-    requires { laid.second ≤ 2 ^ 15 }
+/// Lays the objects of the priority whose turn it is, which are from one place on and before another.
+pub fn lay_front_objects(
+    objects: &ObjectLanes,
+    turn: u8,
+    first: usize,
+    end: usize,
+    laid: Laid,
+    into: &mut Fronts,
+)
+    requires order { first ≤ end }
+    requires small { end ≤ 256 }
+    requires within { AreBetween objects.now turn first end }
+    requires second { laid.second ≤ 2 ^ 15 }
     ensures { (x : ℕ) → x < 256 → front_at into.new x
         ≡ (let p = lanes_pixel objects.now x in objects_over p.colour p.priority p.blended turn laid (front_at into.old x)) }
 {
-    for x in 0..256usize {
+    for x in first..end {
         let pixel = chosen(objects.priorities[x] == turn as u16, objects.colours[x], 0);
         let mark = mark_blended(objects.blended[x], laid.mark);
         let top = into.tops[x];

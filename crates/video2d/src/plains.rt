@@ -1,15 +1,16 @@
 //! Lines where the engine's registers leave the layers as they are: they are laid over the backdrop, from back to front.
 
-ghost use Rattle.std.specs.Prelude.{◌≡◌, ◌<◌, ◌==◌, if◌then◌else◌, ℕ, length, slice_index};
-ghost use Rattle.obj2d.specs.ObjectLaws.{ArePresent, lanes_pixel};
+ghost use Rattle.std.specs.Prelude.{◌≡◌, ◌<◌, ◌≤◌, ◌==◌, if◌then◌else◌, ℕ, length, slice_index};
+ghost use Rattle.obj2d.specs.ObjectLaws.{AreInSpans, lanes_pixel};
 ghost use Rattle.video2d.specs.Layers.{seen_objects};
+ghost use Rattle.video2d.specs.rows.Fronts.{AreBetween};
 ghost use Rattle.video2d.specs.rows.Plain.{background_seen, backgrounds_seen, calm_layers, calm_over, calm_pixel, has_no_backgrounds, is_calm, is_plain_engine, laid_at, laid_over, over_at, plain_pixel};
 
 use crate::backgrounds::{background_row, is_background_on};
 use crate::engines::{Engine, EngineRegisters};
 use crate::mixes::priority;
 use crate::rows::fill;
-use obj2d::{ObjectLanes, no_objects, object_lanes};
+use obj2d::{ObjectLanes, Spans, no_objects, no_spans, object_lanes, span_of};
 use vram_banks::{Row, Vram, palette_colour};
 
 /// Whether objects and windows are off, and there is no effect.
@@ -132,11 +133,14 @@ fn over_in_turn(pixel: u16, priority: u16, turn: u16, behind: u16) -> u16
     }
 }
 
-/// Lays the objects of the priority whose turn it is.
-fn lay_objects(objects: &ObjectLanes, turn: u8, into: &mut [u16; 256])
+/// Lays the objects of the priority whose turn it is, which are from one place on and before another.
+fn lay_objects(objects: &ObjectLanes, turn: u8, first: usize, end: usize, into: &mut [u16; 256])
+    requires order { first ≤ end }
+    requires small { end ≤ 256 }
+    requires within { AreBetween objects.now turn first end }
     ensures { (x : ℕ) → x < 256 → slice_index into.new x ≡ over_at turn (seen_objects (lanes_pixel objects.now x)) (slice_index into.old x) }
 {
-    for x in 0..256usize {
+    for x in first..end {
         into[x] = over_in_turn(
             objects.colours[x],
             objects.priorities[x],
@@ -146,15 +150,14 @@ fn lay_objects(objects: &ObjectLanes, turn: u8, into: &mut [u16; 256])
     }
 }
 
-/// The same, where the priority is among those that are present.
-fn lay_present(objects: &ObjectLanes, present: &[bool; 4], turn: u8, into: &mut [u16; 256])
-    requires present { ArePresent objects.now present.now }
+/// The same, where they may be seen.
+fn lay_seen(objects: &ObjectLanes, spans: &Spans, turn: u8, into: &mut [u16; 256])
+    requires within { AreInSpans objects.now spans.now }
     requires known { turn < 4 }
     ensures { (x : ℕ) → x < 256 → slice_index into.new x ≡ over_at turn (seen_objects (lanes_pixel objects.now x)) (slice_index into.old x) }
 {
-    if present[turn as usize] {
-        lay_objects(objects, turn, into);
-    }
+    let (first, end) = span_of(spans, turn);
+    lay_objects(objects, turn, first, end, into);
 }
 
 /// Lays all layers of a priority.
@@ -165,18 +168,18 @@ fn lay_turn(
     engine: &EngineRegisters,
     line: u8,
     objects: &ObjectLanes,
-    present: &[bool; 4],
+    spans: &Spans,
     turn: u8,
     into: &mut [u16; 256],
 )
     requires colours { length colours.now ≡ 512 }
-    requires present { ArePresent objects.now present.now }
+    requires within { AreInSpans objects.now spans.now }
     requires known { turn < 4 }
     ensures { (x : ℕ) → x < 256 → slice_index into.new x
         ≡ laid_at turn (calm_layers vram.now colours.now which engine.now line (lanes_pixel objects.now x) x) (slice_index into.old x) }
 {
     lay_priority(vram, colours, which, engine, line, turn, into);
-    lay_present(objects, present, turn, into);
+    lay_seen(objects, spans, turn, into);
 }
 
 /// Lays all layers over the backdrop.
@@ -188,26 +191,18 @@ fn lay_turns(
     engine: &EngineRegisters,
     line: u8,
     objects: &ObjectLanes,
-    present: &[bool; 4],
+    spans: &Spans,
     into: &mut [u16; 256],
 )
     requires colours { length colours.now ≡ 512 }
-    requires present { ArePresent objects.now present.now }
+    requires within { AreInSpans objects.now spans.now }
     ensures { (x : ℕ) → x < 256 → slice_index into.new x ≡ calm_over vram.now colours.now which engine.now line x (lanes_pixel objects.now x) }
 {
     fill(palette_colour(colours, 0) % 0x8000, into);
-    lay_turn(
-        vram, colours, which, engine, line, objects, present, 3, into,
-    );
-    lay_turn(
-        vram, colours, which, engine, line, objects, present, 2, into,
-    );
-    lay_turn(
-        vram, colours, which, engine, line, objects, present, 1, into,
-    );
-    lay_turn(
-        vram, colours, which, engine, line, objects, present, 0, into,
-    );
+    lay_turn(vram, colours, which, engine, line, objects, spans, 3, into);
+    lay_turn(vram, colours, which, engine, line, objects, spans, 2, into);
+    lay_turn(vram, colours, which, engine, line, objects, spans, 1, into);
+    lay_turn(vram, colours, which, engine, line, objects, spans, 0, into);
 }
 
 /// Draws the line of an engine's backgrounds and objects over the backdrop; where no object is drawn on the line, as if objects were off.
@@ -228,7 +223,7 @@ pub fn calm_line(
     ensures { (x : ℕ) → x < 256 → slice_index into.new x ≡ calm_pixel vram.now colours.now object_colours.now oam.now which engine.now line x }
 {
     let mut objects = no_objects();
-    let mut present = [false; 4];
+    let mut spans = no_spans();
     let control = engine.dispcnt();
     let has_objects = object_lanes(
         vram,
@@ -238,10 +233,10 @@ pub fn calm_line(
         which.number(),
         line,
         &mut objects,
-        &mut present,
+        &mut spans,
     );
     if has_objects {
-        lay_turns(vram, colours, which, engine, line, &objects, &present, into);
+        lay_turns(vram, colours, which, engine, line, &objects, &spans, into);
     } else {
         plain_layers(vram, colours, which, engine, line, into);
     }

@@ -1,9 +1,10 @@
-use Rattle.std.specs.Prelude.{ℕ, ◌+◌, ◌%◌, ◌^◌, ◌==◌, ◌&&◌, nat_le, Bool, if◌then◌else◌, List, [], ◌∷◌, slice_index}
+use Rattle.std.specs.Prelude.{ℕ, ◌≡◌, ◌≢◌, ◌<◌, ◌≤◌, ◌+◌, ◌%◌, ◌^◌, ◌==◌, ◌&&◌, nat_le, Bool, if◌then◌else◌, List, [], ◌∷◌, slice_index}
 use Rattle.ds_base.specs.Bits.{bit, flag}
 use Rattle.line_lanes.specs.Pixels.{blended}
 use Rattle.video2d.specs.Effects.{brightness_changed, effect, eva, evb}
 use Rattle.video2d.specs.Engines.{EngineState, bldcnt}
 use Rattle.video2d.specs.Layers.{LayerPixels, SeenLayer, seen_background, seen_objects, shown_through}
+use Rattle.obj2d.specs.declared.layers.ObjectLanes.{ObjectLanes}
 use Rattle.video2d.specs.declared.fronts.FrontPixel.{FrontPixel}
 use Rattle.video2d.specs.declared.fronts.Fronts.{Fronts}
 use Rattle.video2d.specs.declared.fronts.Laid.{Laid}
@@ -32,6 +33,11 @@ mark_blended semi mark = if semi then 2 + mark % 2 else mark
 abbrev pub objects_over : ℕ → ℕ → Bool → ℕ → Laid → FrontPixel → FrontPixel
 objects_over colour priority semi turn l f =
     front_over (if priority == turn then colour else 0) (record { second = l.second; mark = mark_blended semi l.mark }) f
+
+-- objects of a priority are seen from one place on and before another alone
+abbrev pub AreBetween : ObjectLanes → ℕ → ℕ → ℕ → Type 0
+AreBetween row turn first end =
+    (x : ℕ) → x < 256 → slice_index row.colours x ≢ 0 → slice_index row.priorities x ≡ turn → (first ≤ x) × (x < end)
 
 -- ---- the layers
 

@@ -1,11 +1,11 @@
-use Rattle.std.proofs.Common.{◌≡◌, true, length, sym, ◌∙◌, ap, subst, arith, rules}
-use Rattle.obj2d.specs.Attributes.{priority}
+use Rattle.std.proofs.Common.{◌≡◌, ◌+◌, true, sym, ◌∙◌, ap, subst}
+use Rattle.obj2d.specs.Attributes.{box_width, left_edge, priority}
 use Rattle.obj2d.specs.ObjectLayer.{seen_at}
 use Rattle.obj2d.specs.Places.{is_drawn}
 use Rattle.obj2d.specs.declared.objects.Object.{Object}
 use Rattle.obj2d.specs.ObjectLaws.{lanes_pixel}
-use Rattle.obj2d.proofs.StripLemmas.{drawn, nothing_seen, rank_of}
-use Rattle.obj2d.proofs.LayerLemmas.{present_more}
+use Rattle.obj2d.proofs.StripLemmas.{drawn, nothing_seen, rank_of, seen_covered}
+use Rattle.obj2d.proofs.LayerLemmas.{within_more}
 use Rattle.obj2d.proofs.layers.draw.Goals as goal
 
 pub returns-then-is_drawn_at-clause-row : goal.returns-then-is_drawn_at-clause-row
@@ -23,11 +23,16 @@ returns-else-is_drawn_at-clause-row c = λ x small.
     sym (nothing_seen a.vram.now a.palette.now a.oam.now a.display.now a.line a.number x (lanes_pixel a.into.now x)
     (sym c.is_drawn_at.ensures ∙ c.if-is_drawn_at.false))
 
-pub returns-then-is_drawn_at-clause-present : goal.returns-then-is_drawn_at-clause-present
-returns-then-is_drawn_at-clause-present c =
+pub returns-then-is_drawn_at-clause-within : goal.returns-then-is_drawn_at-clause-within
+returns-then-is_drawn_at-clause-within c =
     let a = c.args in
-    present_more (λ x. seen_at a.vram.now a.palette.now a.oam.now a.display.now a.line x a.number) a.into.now c.lay.new.into a.present.now c.priority.result
-    (let four : length a.present.now ≡ 4 = search rules in let small = c.priority.ensures.small in omega (arith, four, small))
+    let span = c.on_screen-span in
+    within_more (λ x. seen_at a.vram.now a.palette.now a.oam.now a.display.now a.line x a.number) a.into.now c.lay.new.into a.spans.now c.widen.new.spans c.priority.result
+    span.result.start (span.result.start + span.result.count)
     (λ x. rank_of a.vram.now a.palette.now a.oam.now a.display.now a.line x a.number c.priority.result
     (c.priority.ensures.value ∙ ap priority c.object_at-object.ensures))
-    (returns-then-is_drawn_at-clause-row c) c.requires.present
+    (λ x small full. seen_covered a.vram.now a.palette.now a.oam.now a.display.now a.line a.number x c.left_edge.result c.box_width.result
+    span.result.start span.result.count small
+    (c.left_edge.ensures.value ∙ ap left_edge c.object_at-object.ensures) (c.box_width.ensures.value ∙ ap box_width c.object_at-object.ensures)
+    c.box_width.ensures.small span.ensures.start span.ensures.count full)
+    (returns-then-is_drawn_at-clause-row c) c.widen.ensures.here c.widen.ensures.kept c.requires.within

@@ -13,7 +13,7 @@ loop-number-init c =
       row = λ x small.
           c.requires.blank x small
           ∙ sym (none_before a.vram.now a.palette.now a.oam.now a.display.now a.line x a.first c.requires.before);
-      present = λ x small full. absurd (full (ap (λ (p : ObjectPixel). p.colour) (c.requires.blank x small)));
+      within = λ x small full. absurd (full (ap (λ (p : ObjectPixel). p.colour) (c.requires.blank x small)));
     }
 
 pub loop-number-preserved : goal.loop-number-preserved
@@ -23,7 +23,7 @@ loop-number-preserved c = record {
       c.draw.ensures.row x small
       ∙ ap (with_object (seen c.loop-number.number)) (c.loop-number.invariant.row x small)
       ∙ sym (pixel_below_more seen c.loop-number.number);
-  present = c.draw.ensures.present;
+  within = c.draw.ensures.within;
 }
 
 pub returns-clause-row : goal.returns-clause-row

@@ -9,7 +9,7 @@ returns c = λ x small.
     let here = shown_bits_at c.find_shown.new.into x in
     c.finish_line.ensures x small
     ∙ ap (finished_where (bit 5 here) e) (c.lay_fronts.ensures x small)
-    ∙ line_composed a.vram.now a.colours.now a.object_colours.now a.oam.now a.which e a.line x here _ (lanes_pixel c.draw_objects-present.new.into x)
-    (c.draw_objects-present.ensures.row x small)
+    ∙ line_composed a.vram.now a.colours.now a.object_colours.now a.oam.now a.which e a.line x here _ (lanes_pixel c.draw_objects-spans.new.into x)
+    (c.draw_objects-spans.ensures.row x small)
     (c.find_shown.ensures x small)
     (c.hide.ensures x small)

@@ -1,0 +1,8 @@
+use Rattle.video2d.proofs.Words.{ℕ, subst}
+use Rattle.obj2d.specs.ObjectLaws.{IsInSpan}
+use Rattle.video2d.proofs.compositions.lay_objects_front.Goals as goal
+
+pub lay_front_objects-requires-clause-within : goal.lay_front_objects-requires-clause-within
+lay_front_objects-requires-clause-within c = λ x small full same.
+    let In : ℕ → Type 0 = λ n. IsInSpan c.args.spans.now n x in
+    c.span_of-first.ensures.all x small (subst In same (c.requires.within x small full))

@@ -41,6 +41,22 @@ pub record Exact (k : Kind) (r : InstructionRow) : Type 0 where
   pub spelling : (w : ℕ) → k.Fits w → under w parts ≡ r.value → r.only w ≡ true → spelled (r.instr w) ≡ k.make w
   pub fields : (w : ℕ) → k.Fits w → under w parts ≡ r.value → r.only w ≡ true → HasFields (r.instr w)
 
+pub sound : {k : Kind} {r : InstructionRow} (parts : List Part) → mask parts ≡ r.mask → descend parts ≡ true
+    → ((w v : ℕ) → k.Near w v → under v parts ≡ under w parts) → ((w v : ℕ) → k.Near w v → r.only v ≡ r.only w)
+    → ((w : ℕ) → k.Fits w → under w parts ≡ r.value → r.only w ≡ true → Respelt k r.instr w) → Sound k r
+sound parts is_mask falls blind only_blind law =
+    record { parts = parts; is_mask = is_mask; falls = falls; blind = blind; only_blind = only_blind; law = law }
+
+pub exact : {k : Kind} {r : InstructionRow} (parts : List Part) → mask parts ≡ r.mask → descend parts ≡ true
+    → ((w : ℕ) → k.Fits w → under w parts ≡ r.value → r.only w ≡ true → spelled (r.instr w) ≡ k.make w)
+    → ((w : ℕ) → k.Fits w → under w parts ≡ r.value → r.only w ≡ true → HasFields (r.instr w)) → Exact k r
+exact parts is_mask falls spelling fields = record { parts = parts; is_mask = is_mask; falls = falls; spelling = spelling; fields = fields }
+
+-- what is shown of one, and of those after it
+infixr 5 ◌⨾◌
+pub ◌⨾◌ : {A B : Type 0} → A → B → A × B
+first ⨾ others = (first, others)
+
 abbrev pub AllSound : Kind → List InstructionRow → Type 0
 AllSound k [] = Unit {0}
 AllSound k (r ∷ rs) = Sound k r × AllSound k rs
@@ -78,7 +94,8 @@ agreed_only r arch w e =
 
 agreed_mask : (r : InstructionRow) (arch : Arch) (w : ℕ) → agrees r arch w ≡ true → bit_and w r.mask ≡ r.value
 agreed_mask r arch w e =
-    equal (bit_and w r.mask) r.value (both (r.only w) (bit_and w r.mask == r.value) (both (r.on arch) (r.only w && (bit_and w r.mask == r.value)) e).1).1
+    equal (bit_and w r.mask) r.value (both (r.only w) (bit_and w r.mask == r.value)
+    (both (r.on arch) (r.only w && (bit_and w r.mask == r.value)) e).1).1
 
 parts_under : (w m v : ℕ) (ps : List Part) → mask ps ≡ m → descend ps ≡ true → bit_and w m ≡ v → under w ps ≡ v
 parts_under w m v ps e d h = sym (masked w ps d) ∙ ap (λ (x : ℕ). bit_and w x) e ∙ h
@@ -113,7 +130,8 @@ sound_stage k (r ∷ rs) s arch w h i e =
             again = l.again;
             spelling = ap (λ (x : Instr). spelled x) (sym here) ∙ l.spelling;
             near = l.near;
-            found = if_true (agrees r arch l.again) (Some (r.instr l.again)) (first rs arch l.again) (agrees_blind k r s.0 arch w l.again l.near ∙ hit) ∙ ap (λ (x : Instr). Some x) (l.same ∙ here);
+            found = if_true (agrees r arch l.again) (Some (r.instr l.again)) (first rs arch l.again)
+                (agrees_blind k r s.0 arch w l.again l.near ∙ hit) ∙ ap (λ (x : Instr). Some x) (l.same ∙ here);
             fields = let P : Instr → Type 0 = λ x. HasFields x in subst P here l.fields;
           }
       | inr missed ↦
@@ -122,7 +140,8 @@ sound_stage k (r ∷ rs) s arch w h i e =
             again = a.again;
             spelling = a.spelling;
             near = a.near;
-            found = if_false (agrees r arch a.again) (Some (r.instr a.again)) (first rs arch a.again) (agrees_blind k r s.0 arch w a.again a.near ∙ missed) ∙ a.found;
+            found = if_false (agrees r arch a.again) (Some (r.instr a.again)) (first rs arch a.again)
+                (agrees_blind k r s.0 arch w a.again a.near ∙ missed) ∙ a.found;
             fields = a.fields;
           }
     ]
@@ -160,7 +179,13 @@ then_stage k f g sf qf sg arch w h i e =
     elim (either (f arch w) (g arch w) i e) [
       | inl here ↦
           let a = sf arch w h i here in
-          record { again = a.again; spelling = a.spelling; near = a.near; found = or_some (f arch a.again) (g arch a.again) i a.found; fields = a.fields }
+          record {
+            again = a.again;
+            spelling = a.spelling;
+            near = a.near;
+            found = or_some (f arch a.again) (g arch a.again) i a.found;
+            fields = a.fields;
+          }
       | inr there ↦
           let a = sg arch w h i there.1 in
           record {
@@ -172,12 +197,19 @@ then_stage k f g sf qf sg arch w h i e =
           }
     ]
 
-pub then_exact : (k : Kind) (near_itself : (w : ℕ) → k.Near w w) (f g : Arch → ℕ → Option Instr) → Stage k f → ExactStage k g → Stage k (λ arch w. or_else (f arch w) (g arch w))
+pub then_exact : (k : Kind) (near_itself : (w : ℕ) → k.Near w w) (f g : Arch → ℕ → Option Instr) → Stage k f → ExactStage k g
+    → Stage k (λ arch w. or_else (f arch w) (g arch w))
 then_exact k near_itself f g sf sg arch w h i e =
     elim (either (f arch w) (g arch w) i e) [
       | inl here ↦
           let a = sf arch w h i here in
-          record { again = a.again; spelling = a.spelling; near = a.near; found = or_some (f arch a.again) (g arch a.again) i a.found; fields = a.fields }
+          record {
+            again = a.again;
+            spelling = a.spelling;
+            near = a.near;
+            found = or_some (f arch a.again) (g arch a.again) i a.found;
+            fields = a.fields;
+          }
       | inr there ↦
           let a = sg arch w h i there.1 in
           record { again = w; spelling = a.spelling; near = near_itself w; found = e; fields = a.fields }

@@ -9,6 +9,7 @@ use Rattle.arm_words.proofs.Digits.{digits, word_is}
 use Rattle.arm_words.proofs.Halves.{half_is}
 use Rattle.arm_words.proofs.Masks.{Part, descend, mask}
 use Rattle.arm_words.proofs.PartLaws.{short_digit}
+use Rattle.arm_words.proofs.Stages.{AllExact, ◌⨾◌}
 use Rattle.arm_words.specs.ArmTable.{at16, at12, at0}
 use Rattle.arm_words.specs.Parts.{short_offset_of}
 use Rattle.asm_text.specs.Canonical.{Unread, unread, unread_of_offset}
@@ -29,6 +30,10 @@ pub record Kept (k : Kind) (r : InstructionRow) : Type 0 where
 abbrev pub AllKept : Kind → List InstructionRow → Type 0
 AllKept k [] = Unit {0}
 AllKept k (r ∷ rs) = Kept k r × AllKept k rs
+
+pub kept : {k : Kind} {r : InstructionRow} (parts : List Part) → mask parts ≡ r.mask → descend parts ≡ true
+    → ((w : ℕ) → k.Fits w → under w parts ≡ r.value → r.only w ≡ true → Keeps k r.instr w) → Kept k r
+kept parts is_mask falls keeps = record { parts = parts; is_mask = is_mask; falls = falls; keeps = keeps }
 
 same_test : (a b c d : ℕ) → (a ≡ b → c ≡ d) → (c ≡ d → a ≡ b) → (a == b) ≡ (c == d)
 same_test a b c d there back =
@@ -55,6 +60,16 @@ pub keeps_exact : (k : Kind) (instr : ℕ → Instr) (w : ℕ) → spelled (inst
 keeps_exact k instr w spells none =
     told_by k instr w (k.make w) (unread 0 0) spells none (same_itself (k.make w) ∙ sym (is_equal (bit_and w 0) 0 (and_zero_r w)))
 
+-- rows whose spelling is the word itself
+abbrev pub AllPlain : List InstructionRow → Type 0
+AllPlain [] = Unit {0}
+AllPlain (r ∷ rs) = ((w : ℕ) → unread_of (r.instr w) ≡ unread 0 0) × AllPlain rs
+
+pub plain_kept : (k : Kind) (rs : List InstructionRow) → AllExact k rs → AllPlain rs → AllKept k rs
+plain_kept k [] e plain = tt
+plain_kept k (r ∷ rs) e plain =
+    kept e.0.parts e.0.is_mask e.0.falls (λ w h m o. keeps_exact k r.instr w (e.0.spelling w h m o) (plain.0 w)) ⨾ plain_kept k rs e.1 plain.1
+
 pub exact_word : (instr : ℕ → Instr) (w x : ℕ) → spelled (instr w) ≡ Word x → x ≡ w → unread_of (instr w) ≡ unread 0 0 → Keeps arm instr w
 exact_word instr w x spells sum none = keeps_exact arm instr w (spells ∙ word_is x w sum) none
 
@@ -64,11 +79,13 @@ exact_half instr w x spells sum none = keeps_exact thumb instr w (spells ∙ hal
 -- one whose spelling has some of them so
 pub differs : (instr : ℕ → Instr) (w x bits ones : ℕ) → spelled (instr w) ≡ Word x → unread_of (instr w) ≡ unread bits ones
     → (x ≡ w → bit_and w bits ≡ ones) → (bit_and w bits ≡ ones → x ≡ w) → Keeps arm instr w
-differs instr w x bits ones spells is there back = told_by arm instr w (Word x) (unread bits ones) spells is (same_test x w (bit_and w bits) ones there back)
+differs instr w x bits ones spells is there back = told_by arm instr w (Word x) (unread bits ones) spells is
+    (same_test x w (bit_and w bits) ones there back)
 
 pub differs_half : (instr : ℕ → Instr) (w x bits ones : ℕ) → spelled (instr w) ≡ Half x → unread_of (instr w) ≡ unread bits ones
     → (x ≡ w → bit_and w bits ≡ ones) → (bit_and w bits ≡ ones → x ≡ w) → Keeps thumb instr w
-differs_half instr w x bits ones spells is there back = told_by thumb instr w (Half x) (unread bits ones) spells is (same_test x w (bit_and w bits) ones there back)
+differs_half instr w x bits ones spells is there back = told_by thumb instr w (Half x) (unread bits ones) spells is
+    (same_test x w (bit_and w bits) ones there back)
 
 bit_is : (k w : ℕ) → (w / 2 ^ k % 2 ≡ 0) ⊎ (w / 2 ^ k % 2 ≡ 1)
 bit_is k w = zero_or_one (w / 2 ^ k % 2) (omega arith) where

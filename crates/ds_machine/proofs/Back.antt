@@ -1,17 +1,17 @@
-use Rattle.ds_machine.proofs.Words.{ℕ, zero, suc, ◌≡◌, ◌<◌, ◌≤◌, ◌+◌, ◌-◌, ◌==◌, ◌^◌, nat_lt, max, Bool, true, false, if◌then◌else◌, bit_and, bit_or}
-use Rattle.ds_machine.proofs.Words.{List, [], ◌∷◌, length, Option, Some, None, inl, inr, true≢false, refl, sym, ◌∙◌, ap, subst, arith, ◌&&◌, ◌||◌}
-use Rattle.ds_machine.proofs.Words.{not, IfSome, AllByRecursion, bit_at, bit_not, w32, bit_at-zero, bit_at_and, bit_at_or, same_from_bits, both}
-use Rattle.ds_machine.proofs.Words.{both_true, equal, if_false, if_true, is_equal, low_or_high, lt_cases, not_false, memory_size, due_number, KeyLine}
-use Rattle.ds_machine.proofs.Words.{Shared, Own7, Palette, Oam, Arch, V4, V5, Proc, Nine, Seven, Tick, registers_format, card_due, dma_format_by}
-use Rattle.ds_machine.proofs.Words.{ready, DmaState, any_runs, awaits_geometry, channel_at, channel_due, dma_due, due_with, last_tick, least_running}
-use Rattle.ds_machine.proofs.Words.{DmaDue, held_due, IoState, channel_comes_before, io_of, release_of, blocks_processor, IsBy, IsPastBy, IsSoonBy}
-use Rattle.ds_machine.proofs.Words.{actor_of, IsOver, kept_twice, soon, word_format, StandsFor, IrqState, IsIrq, events, irq_levelled, level}
-use Rattle.ds_machine.proofs.Words.{shares_bit, timer_at, timer_due, gx_level, is_half_empty, is_stalled, waiting_entries, holds_by, scans_follow}
-use Rattle.ds_machine.proofs.Words.{ScanState, scan_before, scan_due, scan_due_tick, HasMachineBounds, due_by, due_unless, dues_of, Around}
-use Rattle.ds_machine.proofs.Words.{SavedProcessor, asked_of, channels_format, is_late, machine_format, machine_parts, memories_format}
-use Rattle.ds_machine.proofs.Words.{processor_format, processors_format, released_again, saved_channels, saved_memories, saved_processors}
-use Rattle.ds_machine.proofs.Words.{saved_units, script_from, units_format, IsSound, MachineState, ProcessorState, processor_of, tick_of}
-use Rattle.ds_machine.proofs.Words.{IsWithinTick, around_of, dma_format, late_runs_by, sleeps_by}
+use Rattle.ds_machine.proofs.Words.{ℕ, ◌≡◌, ◌<◌, ◌≤◌, ◌+◌, ◌-◌, ◌==◌, ◌^◌, nat_lt, max, Bool, true, false, if◌then◌else◌, bit_and, bit_or, List, []}
+use Rattle.ds_machine.proofs.Words.{◌∷◌, length, Option, Some, None, inl, inr, true≢false, refl, sym, ◌∙◌, ap, subst, arith, ◌&&◌, ◌||◌, not, IfSome}
+use Rattle.ds_machine.proofs.Words.{AllByRecursion, bit_at, bit_not, w32, bit_at-zero, bit_at_and, bit_at_or, same_from_bits, both, both_true, equal}
+use Rattle.ds_machine.proofs.Words.{if_false, if_true, is_equal, low_or_high, lt_cases, not_false, memory_size, due_number, KeyLine, Shared, Own7}
+use Rattle.ds_machine.proofs.Words.{Palette, Oam, Arch, V4, V5, Proc, Nine, Seven, Tick, registers_format, card_due, dma_format_by, ready, DmaState}
+use Rattle.ds_machine.proofs.Words.{any_runs, awaits_geometry, channel_at, channel_due, dma_due, due_with, last_tick, least_running, DmaDue, held_due}
+use Rattle.ds_machine.proofs.Words.{IoState, channel_comes_before, io_of, release_of, blocks_processor, IsBy, IsPastBy, IsSoonBy, actor_of, IsOver}
+use Rattle.ds_machine.proofs.Words.{kept_twice, soon, word_format, StandsFor, IrqState, IsIrq, events, irq_levelled, level, shares_bit, timer_at}
+use Rattle.ds_machine.proofs.Words.{timer_due, gx_level, is_half_empty, is_stalled, waiting_entries, holds_by, scans_follow, ScanState, scan_before}
+use Rattle.ds_machine.proofs.Words.{scan_due, scan_due_tick, HasMachineBounds, due_by, due_unless, dues_of, Around, SavedProcessor, asked_of}
+use Rattle.ds_machine.proofs.Words.{channels_format, is_late, machine_format, machine_parts, memories_format, processor_format, processors_format}
+use Rattle.ds_machine.proofs.Words.{released_again, saved_channels, saved_memories, saved_processors, saved_units, script_from, units_format, IsSound}
+use Rattle.ds_machine.proofs.Words.{MachineState, ProcessorState, processor_of, tick_of, IsWithinTick, around_of, zero, suc, dma_format, late_runs_by}
+use Rattle.ds_machine.proofs.Words.{sleeps_by}
 use Rattle.std.proofs.lemmas.Nat.{and_le_l, and_le_r}
 use Rattle.std.proofs.lemmas.Nat.Bits.{bit_at-lt, bit_at_above, bit_at_not}
 use Rattle.ds_base.proofs.Choices.{equal_self, is_le, isnt_lt, lt_of}
@@ -36,6 +36,7 @@ use Rattle.gx_fifo.specs.Saved.{IsSavedGx}
 use Rattle.video2d.proofs.SavedLaws.{video_stands}
 use Rattle.video2d.specs.Saved.{IsSavedVideo}
 use Rattle.vram_banks.proofs.SavedLaws.{banks_stand}
+use Rattle.ds_machine.proofs.Pairs.{◌⨾◌}
 use Rattle.ds_machine.specs.Back.{MachinesComeBack}
 use Rattle.ds_machine.specs.Saved.{own_due, saved_size}
 use Rattle.ds_machine.specs.SavedParts.{saved_processor}
@@ -59,7 +60,8 @@ again_set flags small e =
     let one = bit_at-lt flags i in
     let level_one = bit_at-lt level i in
     elim (low_or_high i 32) [
-      | inl lt ↦ (let d : bit_at rest_of_bits i ≡ 1 - bit_at level i = bit_at_not w32 level i (omega arith) lt in omega (arith, whole, a, b, c, d, one, level_one))
+      | inl lt ↦ (let d : bit_at rest_of_bits i ≡ 1 - bit_at level i = bit_at_not w32 level i (omega arith) lt in
+          omega (arith, whole, a, b, c, d, one, level_one))
       | inr le ↦ (let none = bit_at_above flags 32 i small le in omega (arith, whole, a, b, c, none, level_one))
     ])
 
@@ -138,7 +140,8 @@ saved_long memory bytes h = h
 
 -- ---- a processor
 
-processor_stands : (arch : Arch) (at : ℕ) (p : SavedProcessor) → at ≤ 2 ^ 56 → StandsFor (registers_format arch) at p.registers → (p.halted ≡ true → p.due ≡ 0)
+processor_stands : (arch : Arch) (at : ℕ) (p : SavedProcessor) → at ≤ 2 ^ 56 → StandsFor (registers_format arch) at p.registers
+    → (p.halted ≡ true → p.due ≡ 0)
     → p.due ≤ at + 2 ^ 32 → StandsFor (processor_format arch) at p
 unfolding processor_format
 processor_stands arch at p early registers halted soon_ =
@@ -147,7 +150,8 @@ processor_stands arch at p early registers halted soon_ =
 
 -- ---- a machine at a tick
 
-module _ (keys : List KeyLine) (at : ℕ) (s : MachineState) (early : at ≤ 2 ^ 56) (bounds : HasMachineBounds s) (sound : IsSound s) (within : IsWithinTick at s)
+module _ (keys : List KeyLine) (at : ℕ) (s : MachineState) (early : at ≤ 2 ^ 56) (bounds : HasMachineBounds s) (sound : IsSound s)
+    (within : IsWithinTick at s)
     (none : IsOver (dues_of s) at) where
   abbrev u : IoState
   u = s.io
@@ -164,14 +168,11 @@ module _ (keys : List KeyLine) (at : ℕ) (s : MachineState) (early : at ≤ 2 ^
   unfolding processors_format
   processors_stand = (
     (
-      processor_stands V5 at (saved_processor s.nine.processor u.nine) early
-          (registers_stand V5 at s.nine.processor.registers (bounds.registers Nine) bounds.statuses.nine.processor) (is_halted_still Nine) (within.own Nine),
-      (
-        processor_stands V4 at (saved_processor s.seven.processor u.seven) early
-            (registers_stand V4 at s.seven.processor.registers (bounds.registers Seven) bounds.statuses.seven) (is_halted_still Seven) (within.own Seven),
-        (cp15_stands at s.nine.cp15 bounds.cp15, tt),
-      ),
-    ),
+        processor_stands V5 at (saved_processor s.nine.processor u.nine) early
+        (registers_stand V5 at s.nine.processor.registers (bounds.registers Nine) bounds.statuses.nine.processor) (is_halted_still Nine) (within.own Nine)
+        ⨾ processor_stands V4 at (saved_processor s.seven.processor u.seven) early
+        (registers_stand V4 at s.seven.processor.registers (bounds.registers Seven) bounds.statuses.seven) (is_halted_still Seven) (within.own Seven)
+        ⨾ cp15_stands at s.nine.cp15 bounds.cp15 ⨾ tt),
     refl,
   )
 
@@ -327,7 +328,8 @@ module _ (keys : List KeyLine) (at : ℕ) (s : MachineState) (early : at ≤ 2 ^
   seven_comes =
       let dma = u.seven.dma in
       let which = least_running dma.channels in
-      comes_after which (ready dma.last (channel_at dma.channels which)) (λ tick due. seven_late which (least_below dma.channels) tick (least_due dma ∙ due))
+      comes_after which (ready dma.last (channel_at dma.channels which))
+      (λ tick due. seven_late which (least_below dma.channels) tick (least_due dma ∙ due))
 
   triggered_by : (proc : Proc) → AreTriggeredBy at (io_of u proc).dma
   triggered_by proc =
@@ -343,7 +345,8 @@ module _ (keys : List KeyLine) (at : ℕ) (s : MachineState) (early : at ≤ 2 ^
   not_late false true due from h = refl
   not_late false false due from h = absurd (let lt = lt_of due at h in let le = from refl in omega (arith, lt, le))
 
-  due_unblocked : (blocked : Bool) (p : ProcessorState) → ((tick : Tick) → due_unless blocked p ≡ Some tick → at ≤ tick.0) → blocked ≡ false → at ≤ p.due
+  due_unblocked : (blocked : Bool) (p : ProcessorState) → ((tick : Tick) → due_unless blocked p ≡ Some tick → at ≤ tick.0) → blocked ≡ false
+      → at ≤ p.due
   due_unblocked true p from h = absurd (true≢false h)
   due_unblocked false p from h = from (tick_of p) refl
 
@@ -379,7 +382,8 @@ module _ (keys : List KeyLine) (at : ℕ) (s : MachineState) (early : at ≤ 2 ^
   video_saved =
       let scan = within.units.scan in
       let waits : scan_before at ≡ scan_before scan.0 =
-      scans_follow.waits scan.0 at scan.1 (subst (λ (x : ScanState). at ≤ scan_due x) scan.2 (late 1 (omega arith) (scan_due_tick u.video.scan) refl)) in
+      scans_follow.waits scan.0 at scan.1 (subst (λ (x : ScanState). at ≤ scan_due x) scan.2
+      (late 1 (omega arith) (scan_due_tick u.video.scan) refl)) in
       record { is = within.units.video; scan = scan.2 ∙ sym waits }
 
   gx_saved : IsSavedGx at u.gx
@@ -402,7 +406,8 @@ module _ (keys : List KeyLine) (at : ℕ) (s : MachineState) (early : at ≤ 2 ^
   -- ---- what is settled
 
   abbrev Settled : Type 0
-  Settled = ((irq_levelled u.nine.irq (gx_level u.gx)).if_ ≡ u.nine.irq.if_) × (not (is_half_empty u.gx && awaits_geometry u.nine.dma) ≡ true) × (release_of u ≡ u.released)
+  Settled = ((irq_levelled u.nine.irq (gx_level u.gx)).if_ ≡ u.nine.irq.if_) × (not (is_half_empty u.gx && awaits_geometry u.nine.dma) ≡ true)
+      × (release_of u ≡ u.released)
 
   settled : Settled
   settled = let one = both _ _ sound.settled in let two = both _ _ one.1 in (equal _ _ one.0, two.0, equal _ _ two.1)
@@ -423,16 +428,19 @@ module _ (keys : List KeyLine) (at : ℕ) (s : MachineState) (early : at ≤ 2 ^
       let apart = none_shared u.nine.irq.ie u.nine.irq.if_ (awake_no_more Nine e) in
       ap (λ (n : ℕ). not (n == 0)) (still_apart u.nine.irq.ie u.nine.irq.if_ (bit_not w32 level) apart)
 
-  hears_low : (halted on : Bool) → u.nine.halted ≡ halted → gx_level u.gx ≡ on → (halted && not (bit_and u.nine.irq.ie level == 0)) ≡ true → not on ≡ true
+  hears_low : (halted on : Bool) → u.nine.halted ≡ halted → gx_level u.gx ≡ on → (halted && not (bit_and u.nine.irq.ie level == 0)) ≡ true
+      → not on ≡ true
   hears_low halted false e f h = refl
   hears_low false true e f h = absurd (true≢false (sym h))
   hears_low true true e f h =
-      let told : bit_or u.nine.irq.if_ level ≡ u.nine.irq.if_ = subst (λ (on : Bool). (irq_levelled u.nine.irq on).if_ ≡ u.nine.irq.if_) f settled.0 in
+      let told : bit_or u.nine.irq.if_ level ≡ u.nine.irq.if_ =
+      subst (λ (on : Bool). (irq_levelled u.nine.irq on).if_ ≡ u.nine.irq.if_) f settled.0 in
       let apart = none_shared u.nine.irq.ie u.nine.irq.if_ (awake_no_more Nine e) in
       let low = level_apart u.nine.irq.ie u.nine.irq.if_ told apart in
       absurd (true≢false (sym h ∙ ap (λ (n : ℕ). not (n == 0)) low))
 
-  late_stalls : (halted runs stalled : Bool) (due : ℕ) → (((halted || runs) || stalled) ≡ false → at ≤ due) → ((not halted && nat_lt due at) && not runs) ≡ true → stalled ≡ true
+  late_stalls : (halted runs stalled : Bool) (due : ℕ) → (((halted || runs) || stalled) ≡ false → at ≤ due)
+      → ((not halted && nat_lt due at) && not runs) ≡ true → stalled ≡ true
   late_stalls true runs stalled due from h = absurd (true≢false (sym h))
   late_stalls false runs true due from h = refl
   late_stalls false true false due from h = absurd (true≢false (sym (both (nat_lt due at) false h).1))
@@ -456,7 +464,8 @@ module _ (keys : List KeyLine) (at : ℕ) (s : MachineState) (early : at ≤ 2 ^
 
   stall_left : (stalled : Bool) (due : Option DmaDue) (released : ℕ) → released ≤ at
       → (if stalled then 0 else (if channel_comes_before due released then released else 0)) ≡ released
-      → (stalled ≡ false → IfSome due (λ d. at ≤ max released d.tick.0)) → (if stalled then 0 else (if channel_comes_before due at then at else 0)) ≡ released
+      → (stalled ≡ false → IfSome due (λ d. at ≤ max released d.tick.0))
+      → (if stalled then 0 else (if channel_comes_before due at then at else 0)) ≡ released
   stall_left true due released le kept from = kept
   stall_left false None released le kept from = kept
   stall_left false (Some due) released le kept from =
@@ -468,7 +477,8 @@ module _ (keys : List KeyLine) (at : ℕ) (s : MachineState) (early : at ≤ 2 ^
       ]
 
   held_late : (stalled : Bool) (released : ℕ) (which : ℕ) (due : Option Tick)
-      → ((tick : Tick) → held_due stalled released due ≡ Some tick → at ≤ tick.0) → stalled ≡ false → IfSome (due_with which due) (λ d. at ≤ max released d.tick.0)
+      → ((tick : Tick) → held_due stalled released due ≡ Some tick → at ≤ tick.0) → stalled ≡ false
+      → IfSome (due_with which due) (λ d. at ≤ max released d.tick.0)
   held_late true released which due from h = absurd (true≢false h)
   held_late false released which None from h = tt
   held_late false released which (Some due) from h = from (record { 0 = max released due.0 }) refl
@@ -499,25 +509,9 @@ module _ (keys : List KeyLine) (at : ℕ) (s : MachineState) (early : at ≤ 2 ^
   stands : s.keys ≡ script_from at keys → StandsFor (machine_parts around at) at s
   unfolding machine_parts
   stands script = (
-    (
-      processors_stand,
-      (
-        memories_stand,
-        (
-          units_stand,
-          (
-            channels_stand,
-            (
-              video_stands at u.video video_saved,
-              (
-                gx_stands (holds_by (asked_of at (saved_processor s.nine.processor u.nine) saved_irq u.nine.dma)) at u.gx early gx_saved asks_hold,
-                (card_stands s.file at u.card early card_saved, tt),
-              ),
-            ),
-          ),
-        ),
-      ),
-    ),
+    (processors_stand ⨾ memories_stand ⨾ units_stand ⨾ channels_stand ⨾ video_stands at u.video video_saved
+        ⨾ gx_stands (holds_by (asked_of at (saved_processor s.nine.processor u.nine) saved_irq u.nine.dma)) at u.gx early gx_saved asks_hold
+        ⨾ card_stands s.file at u.card early card_saved ⨾ tt),
     made_again script,
   )
 

@@ -23,6 +23,7 @@ pub mod RamAccesses
 pub mod NearAccesses
 pub mod NearUnobserved
 pub mod Others
+pub mod Pairs
 pub mod PortReads
 pub mod SteadyPorts
 pub mod OwnRemaining

@@ -14,6 +14,7 @@ use Rattle.cp15_tcm.specs.Registers.{control_mask, control_ones}
 use Rattle.ds_state.proofs.Codes.{AreBytes}
 use Rattle.ds_state.proofs.Exact.{reads_exactly}
 use Rattle.ds_state.specs.Reading.{Left}
+use Rattle.ds_machine.proofs.Pairs.{◌⨾◌}
 use Rattle.ds_machine.proofs.Running.{starts_running}
 use Rattle.ds_machine.proofs.SavedParts.{machine_reads}
 use Rattle.ds_machine.proofs.SavedExact.{machine_exact, saved_events}
@@ -82,10 +83,11 @@ machine_stands around at s stands = record {
   file = sym (ap (λ (m : MachineState). m.file) stands.1);
 }
 
-pub read_stands : (around : Around) (at : ℕ) (l : Left) (s : MachineState) (left : Left) → AreBytes l.bytes → read_format (machine_parts around at) at l ≡ Ok (s, left)
-    → StandsFor (machine_parts around at) at s
+pub read_stands : (around : Around) (at : ℕ) (l : Left) (s : MachineState) (left : Left) → AreBytes l.bytes
+    → read_format (machine_parts around at) at l ≡ Ok (s, left) → StandsFor (machine_parts around at) at s
 read_stands around at l s left are h =
-    let was = (reads_exactly (λ (m : MachineState). m) (machine_parts around at) at (λ (m : MachineState). Unit {0}) l (s, left) (machine_exact around at) are h).0 in
+    let was = (reads_exactly (λ (m : MachineState). m) (machine_parts around at) at (λ (m : MachineState). Unit {0}) l (s, left)
+    (machine_exact around at) are h).0 in
     (was.keeps, was.again)
 
 not_awaiting : (half waits : Bool) → (waits ≡ true → half ≡ false) → not (half && waits) ≡ true
@@ -102,7 +104,8 @@ release_again : (stalled : Bool) (at : ℕ) (due : Option DmaDue) →
     (let kept : ℕ = if stalled then 0 else (if channel_comes_before due at then at else 0) in release_by stalled due kept ≡ kept)
 release_again true at due = refl
 release_again false at due = by_due (channel_comes_before due at) refl where
-  by_due : (b : Bool) → channel_comes_before due at ≡ b → (if channel_comes_before due (if b then at else 0) then (if b then at else 0) else 0) ≡ (if b then at else 0)
+  by_due : (b : Bool) → channel_comes_before due at ≡ b → (if channel_comes_before due (if b then at else 0) then (if b then at else 0) else 0)
+      ≡ (if b then at else 0)
   by_due true e = if_true (channel_comes_before due at) at 0 e
   by_due false e = none_or_none (channel_comes_before due 0)
 
@@ -135,76 +138,13 @@ module _ (around : Around) (at : ℕ) (s : MachineState) (m : MachineStands arou
       let seven = timers_from at s.io.seven.timers units.timers_of_seven in
       let of_nine = nine_channel at s.io.gx s.io.nine.dma s.io.released m.released in
       let of_seven = seven_channel (late_runs_by (is_late at (saved_processors s).seven)) at s.io.seven.dma seven_dma in
-      over_from at (dues_of s) (
-        keys_from_at,
-        (
-          scan_due_from,
-          (
-            nine.0,
-            (
-              nine.1,
-              (
-                nine.2,
-                (
-                  nine.3,
-                  (
-                    seven.0,
-                    (
-                      seven.1,
-                      (
-                        seven.2,
-                        (
-                          seven.3,
-                          (
-                            divider_from at s.io.divider units.divider,
-                            (
-                              root_from at s.io.root units.root,
-                              (
-                                gx_from (holds_by asks) at s.io.gx m.gx,
-                                (
-                                  card_from around.file at s.io.card m.card,
-                                  (
-                                    of_nine 0,
-                                    (
-                                      of_nine 1,
-                                      (
-                                        of_nine 2,
-                                        (
-                                          of_nine 3,
-                                          (
-                                            of_seven 0,
-                                            (
-                                              of_seven 1,
-                                              (
-                                                of_seven 2,
-                                                (
-                                                  of_seven 3,
-                                                  (
-                                                    own_from_nine s.io.nine.halted (any_runs s.io.nine.dma.channels) (is_stalled s.io.gx) at s.nine.processor.due answers.late,
-                                                    (own_from s.io.seven.halted (any_runs s.io.seven.dma.channels) at s.seven.processor.due (late_runs (is_late at (saved_processors s).seven) at s.io.seven.dma seven_dma), tt),
-                                                  ),
-                                                ),
-                                              ),
-                                            ),
-                                          ),
-                                        ),
-                                      ),
-                                    ),
-                                  ),
-                                ),
-                              ),
-                            ),
-                          ),
-                        ),
-                      ),
-                    ),
-                  ),
-                ),
-              ),
-            ),
-          ),
-        ),
-      )
+      over_from at (dues_of s) (keys_from_at ⨾ scan_due_from ⨾ nine.0 ⨾ nine.1 ⨾ nine.2 ⨾ nine.3 ⨾ seven.0 ⨾ seven.1 ⨾ seven.2 ⨾ seven.3
+      ⨾ divider_from at s.io.divider units.divider ⨾ root_from at s.io.root units.root ⨾ gx_from (holds_by asks) at s.io.gx m.gx
+      ⨾ card_from around.file at s.io.card m.card ⨾ of_nine 0 ⨾ of_nine 1 ⨾ of_nine 2 ⨾ of_nine 3 ⨾ of_seven 0 ⨾ of_seven 1 ⨾ of_seven 2
+      ⨾ of_seven 3 ⨾ own_from_nine s.io.nine.halted (any_runs s.io.nine.dma.channels) (is_stalled s.io.gx) at s.nine.processor.due answers.late
+      ⨾ own_from s.io.seven.halted (any_runs s.io.seven.dma.channels) at s.seven.processor.due
+      (late_runs (is_late at (saved_processors s).seven) at s.io.seven.dma seven_dma)
+      ⨾ tt)
 
   -- ---- nobody is to wake, and the units are settled
 
@@ -216,7 +156,8 @@ module _ (around : Around) (at : ℕ) (s : MachineState) (m : MachineStands arou
   asleep Seven = seven_asleep s.io.seven.halted at s.io.seven.irq units.irq_of_seven
 
   told : (irq_levelled s.io.nine.irq (gx_level s.io.gx)).if_ ≡ s.io.nine.irq.if_
-  told = subst (λ (i : IrqState). (irq_levelled i (gx_level s.io.gx)).if_ ≡ i.if_) (sym m.irq) (levelled_twice (irq_levelled s.io.nine.irq false) (gx_level s.io.gx))
+  told = subst (λ (i : IrqState). (irq_levelled i (gx_level s.io.gx)).if_ ≡ i.if_) (sym m.irq)
+      (levelled_twice (irq_levelled s.io.nine.irq false) (gx_level s.io.gx))
 
   kept : release_of s.io ≡ s.io.released
   kept =
@@ -226,7 +167,8 @@ module _ (around : Around) (at : ℕ) (s : MachineState) (m : MachineStands arou
   are_settled : is_settled s.io ≡ true
   are_settled =
       let answers = answered asks at s.io.gx m.gx in
-      both_true _ _ (is_equal _ _ told) (both_true _ _ (not_awaiting (is_half_empty s.io.gx) (awaits_geometry s.io.nine.dma) answers.waits) (is_equal _ _ kept))
+      both_true _ _ (is_equal _ _ told) (both_true _ _ (not_awaiting (is_half_empty s.io.gx) (awaits_geometry s.io.nine.dma) answers.waits)
+      (is_equal _ _ kept))
 
   goes_on : HasSoundParts s → around.nine + around.seven + around.events ≤ 24 * at → IsRunning at s
   goes_on parts few =
@@ -253,7 +195,8 @@ unfolding registers_format
 registers_have arch at r stands = record {
   cpsr = equal _ _ stands.0.2.2.1;
   saved = subst (λ (xs : List ℕ). All (IsStatus arch) xs) (ap (λ (x : RegisterState). x.saved) stands.1)
-      (all_five (IsStatus arch) _ _ _ _ _ (equal _ _ stands.0.2.2.2.1) (equal _ _ stands.0.2.2.2.2.1) (equal _ _ stands.0.2.2.2.2.2.1) (equal _ _ stands.0.2.2.2.2.2.2.1)
+      (all_five (IsStatus arch) _ _ _ _ _ (equal _ _ stands.0.2.2.2.1) (equal _ _ stands.0.2.2.2.2.1) (equal _ _ stands.0.2.2.2.2.2.1)
+      (equal _ _ stands.0.2.2.2.2.2.2.1)
       (equal _ _ stands.0.2.2.2.2.2.2.2.1));
 }
 
@@ -297,15 +240,17 @@ saved_statuses around at s stands =
 -- ---- what is read
 
 pub read_running : (file : List ℕ) (keys : List KeyLine) (nine seven events at : ℕ) (l : Left) (s : MachineState) (left : Left) → AreBytes l.bytes
-    → read_format (machine_format file keys nine seven events at) at l ≡ Ok (with_file file s, left) → HasSoundParts s → nine + seven + events ≤ 24 * at
-    → IsRunning at (with_file file s)
+    → read_format (machine_format file keys nine seven events at) at l ≡ Ok (with_file file s, left) → HasSoundParts s
+    → nine + seven + events ≤ 24 * at → IsRunning at (with_file file s)
 read_running file keys nine seven events at l s left are h parts few =
     let around : Around = record { file = file; keys = keys; nine = nine; seven = seven; events = events } in
-    saved_running around at (with_file file s) (read_stands around at l (with_file file s) left are (sym (machine_reads file keys nine seven events at l) ∙ h)) (record { io = parts.io; keys = parts.keys }) few
+    saved_running around at (with_file file s) (read_stands around at l (with_file file s) left are
+    (sym (machine_reads file keys nine seven events at l) ∙ h)) (record { io = parts.io; keys = parts.keys }) few
 
 pub read_statuses : (file : List ℕ) (keys : List KeyLine) (nine seven events at : ℕ) (l : Left) (s : MachineState) (left : Left) → AreBytes l.bytes
     → read_format (machine_format file keys nine seven events at) at l ≡ Ok (with_file file s, left) → HasBothStatuses s
 read_statuses file keys nine seven events at l s left are h =
     let around : Around = record { file = file; keys = keys; nine = nine; seven = seven; events = events } in
-    let has = saved_statuses around at (with_file file s) (read_stands around at l (with_file file s) left are (sym (machine_reads file keys nine seven events at l) ∙ h)) in
+    let has = saved_statuses around at (with_file file s) (read_stands around at l (with_file file s) left are
+    (sym (machine_reads file keys nine seven events at l) ∙ h)) in
     record { nine = has.nine; seven = has.seven }

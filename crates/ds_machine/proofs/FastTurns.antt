@@ -8,7 +8,6 @@ use Rattle.ds_machine.specs.declared.going.Gone.TheVariants.{List, Unknown}
 use Rattle.ds_machine.proofs.DueTicks.{own_tick}
 use Rattle.ds_machine.proofs.EndTicks.{LeavesOthers, end_stays, limit_stays}
 use Rattle.ds_machine.proofs.FastSteps.{asleep_by, cost_keeps, free_stays, made_fast, reach_beside, reach_keeps}
-use Rattle.ds_machine.proofs.Files.{some_sound}
 use Rattle.ds_machine.proofs.GoingSteps.{IsDueAt, least_there, needs_none, other_stays, took_when}
 use Rattle.ds_machine.proofs.NearUnobserved.{near_unobserved}
 use Rattle.ds_machine.proofs.Wakes.{put_beside}
@@ -74,7 +73,7 @@ module _ (next_event : NextEvent) (s : MachineState) (proc : Proc) (until end li
   went_fast m next clocks lt goes_now machine stepped io e near =
       let tick : Tick = record { 0 = n } in
       let d = is_due in
-      let sound = some_sound s goes.running in
+      let sound = goes.running.sound in
       let kept = reach_keeps next_event s m proc tick goes.kept machine io in
       let made = made_fast s m next (rank_of proc) proc tick clocks (subst IsIo (sym io) sound.parts.io) (ap is_settled io ∙ sound.settled) (asleep_by s m io sound.asleep)
       (free_stays proc s m io d.free) d.own machine (sym stepped) e in

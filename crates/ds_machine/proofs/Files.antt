@@ -1,12 +1,9 @@
-use Rattle.ds_machine.proofs.Words.{ℕ, ◌≡◌, ◌≤◌, ◌^◌, inl, inr, Bool, true, false, true≢false, if◌then◌else◌, List, Option, Some, None, refl, sym}
-use Rattle.ds_machine.proofs.Words.{◌∙◌, ap, subst, arith, [], AreRegisters, Proc, Nine, Seven, Tick, true_or_false, io_event, actor_of, MachineStep}
-use Rattle.ds_machine.proofs.Words.{Makes, Stops, KeyScript, Card, Dma, Processor, LeftOut, acting_dues, HasMachineBounds, one_event, RunsWithSome}
-use Rattle.ds_machine.proofs.Words.{last_limit, ActsUnobserving, CatchesUp, CatchesUpFor, CatchesUpIf, ComesBeforeAll, TakesGeometry, observes_by}
-use Rattle.ds_machine.proofs.Words.{IsAhead, IsBelowFence, IsPrivate, rank_of, Shown, after_event, awake, due_by, dues_of, processor_due}
-use Rattle.ds_machine.proofs.Words.{reference_step, step_by, HasSoundParts, IsSound, MachineState, with_file, HasBothStatuses, left_by, Steps}
-use Rattle.ds_machine.proofs.Words.{stepped_of, ended, goes_on, machine_settled, processor_of, tick_of, wakes, with_io, woken_one, CartFile}
-use Rattle.ds_machine.proofs.Words.{machine_graft, step_with, untouched_by, BelongsToTurn, TakesSteps, more_steps, no_steps, HasEnds, HasLimit}
-use Rattle.ds_machine.proofs.Words.{IsTurnEnd, MayAct, MayStep, due_or_never, Ends}
+use Rattle.ds_machine.proofs.Words.{ℕ, ◌≡◌, inl, inr, Bool, true, false, true≢false, if◌then◌else◌, List, Option, Some, None, refl, sym, ◌∙◌, ap}
+use Rattle.ds_machine.proofs.Words.{subst, Proc, Nine, Seven, Tick, true_or_false, io_event, actor_of, MachineStep, Makes, Stops, KeyScript, Card}
+use Rattle.ds_machine.proofs.Words.{Dma, Processor, LeftOut, acting_dues, one_event, ActsUnobserving, observes_by, IsAhead, IsBelowFence, IsPrivate}
+use Rattle.ds_machine.proofs.Words.{Shown, after_event, awake, due_by, dues_of, processor_due, reference_step, step_by, HasSoundParts, MachineState}
+use Rattle.ds_machine.proofs.Words.{with_file, HasBothStatuses, left_by, stepped_of, ended, goes_on, machine_settled, processor_of, tick_of, wakes}
+use Rattle.ds_machine.proofs.Words.{with_io, woken_one, CartFile, machine_graft, step_with, untouched_by, MayStep}
 use Rattle.ds_runs.specs.declared.actors.Actor as actor
 use Rattle.ds_machine.specs.Lagging as lagging
 use Rattle.ds_machine.specs.Touched.{StepsKeepFile}
@@ -18,15 +15,11 @@ use Rattle.ds_machine.proofs.Running.{running_taken, steps_keep_running}
 use Rattle.ds_machine.proofs.Touched.{comes_to_same}
 
 -- With another file a machine is due when it was, and its actors' steps come to the same: none but the card looks at it. What is said of `s` is said
--- of `with_file file s`, and the other way round, since the machine with its own file is itself.
+-- of `with_file file s`.
 
 abbrev pub is_card : actor.Actor → Bool
 is_card Card = true
 is_card _ = false
-
-pub no_card : (proc : Proc) → is_card (actor_of (rank_of proc)) ≡ false
-no_card Nine = refl
-no_card Seven = refl
 
 abbrev Step : Type 0
 Step = MachineStep MachineState Shown LeftOut
@@ -45,14 +38,6 @@ module _ (file : List ℕ) where
   due_put KeyScript s = refl
   due_put (Processor proc) s = processor_due_put s proc
   due_put _ s = refl
-
-  pub dues_put : (s : MachineState) → dues_of (put s) ≡ dues_of s
-  unfolding dues_of
-  dues_put s = refl
-
-  pub acting_put : (s : MachineState) → acting_dues (put s) ≡ acting_dues s
-  unfolding acting_dues
-  acting_put s = refl
 
   pub own_put : (s : MachineState) (proc : Proc) → processor_of (put s) proc ≡ processor_of s proc
   own_put s Nine = refl
@@ -105,17 +90,10 @@ module _ (file : List ℕ) where
   kept_put (Makes next outs) h = ap (λ (step : Step). (left_by step).file) h
   kept_put (Stops stop left) h = ap (λ (step : Step). (left_by step).file) h
 
-  pub makes_put : (rank : ℕ) (s next : MachineState) (outs : List Shown) → is_card (actor_of rank) ≡ false → reference_step rank s ≡ Makes next outs
-      → reference_step rank (put s) ≡ Makes (put next) outs
-  makes_put rank s next outs other h = reference_put rank s other ∙ ap (step_with put) h
-
   stepped_put : (old new : MachineState) (done : answer.Done) → step_with put (stepped_of old done new) ≡ stepped_of (put old) done (put new)
   stepped_put old new answers.Made = refl
   stepped_put old new (answers.Frame swapped) = refl
   stepped_put old new (answers.Stopped left) = refl
-
-  pub steps_put : (proc : Proc) (old new : MachineState) (done : answer.Done) → Steps (rank_of proc) old done new → Steps (rank_of proc) (put old) done (put new)
-  steps_put proc old new done h = reference_put (rank_of proc) old (no_card proc) ∙ ap (step_with put) h ∙ stepped_put old new done
 
   -- so what a step comes to on a machine without its file, it comes to with it
   pub awake_with : (rank : ℕ) (a : actor.Actor) (tick : Tick) (old new : MachineState) (done : answer.Done) → is_card a ≡ false
@@ -133,9 +111,6 @@ module _ (file : List ℕ) where
   pub parts_put : (s : MachineState) → HasSoundParts s → HasSoundParts (put s)
   parts_put s is = record { io = is.io; keys = is.keys }
 
-  pub sound_put : (s : MachineState) → IsSound s → IsSound (put s)
-  sound_put s is = record { parts = parts_put s is.parts; asleep = is.asleep; settled = is.settled }
-
   pub statuses_put : (s : MachineState) → HasBothStatuses s → HasBothStatuses (put s)
   statuses_put s has = record { nine = has.nine; seven = has.seven }
 
@@ -147,7 +122,7 @@ module _ (file : List ℕ) where
   unfolding acting_dues
   below_put s tick proc is = λ rank at there f. is rank at there (fences_as (actor_of rank) proc s (put s) refl f)
 
-  pub ahead_put : (s : MachineState) (proc : Proc) → IsAhead s proc → IsAhead (put s) proc
+  ahead_put : (s : MachineState) (proc : Proc) → IsAhead s proc → IsAhead (put s) proc
   ahead_put s Nine is = record { private = private_put s Nine is.private; below = below_put s (tick_of s.nine.processor) Nine is.below }
   ahead_put s Seven is = record { private = private_put s Seven is.private; below = below_put s (tick_of s.seven.processor) Seven is.below }
 
@@ -157,10 +132,6 @@ module _ (file : List ℕ) where
   observes_put (Processor Nine) s = refl
   observes_put (Processor Seven) s = refl
   observes_put _ s = refl
-
-  pub first_put : (s : MachineState) (tick rank : ℕ) → ComesBeforeAll tick rank s → ComesBeforeAll tick rank (put s)
-  unfolding acting_dues
-  first_put s tick rank is = is
 
   apart_put : (s : MachineState) (tick : Tick) (rank : ℕ) → ActsUnobserving s rank tick → ActsUnobserving (put s) rank tick
   unfolding acting_dues
@@ -178,84 +149,6 @@ module _ (file : List ℕ) where
     ];
   }
 
-  pub may_act_put : (s : MachineState) (tick : Tick) (rank : ℕ) → MayAct s tick rank → MayAct (put s) tick rank
-  unfolding acting_dues
-  may_act_put s tick rank is = record { due = is.due; may = elim is.may [ inl least ↦ inl least | inr k ↦ inr (k.0, k.1, ahead_put s k.0 k.2) ] }
-
-  pub belongs_put : (until : ℕ) (s : MachineState) (proc : Proc) → BelongsToTurn until s proc → BelongsToTurn until (put s) proc
-  unfolding acting_dues
-  belongs_put until s proc is = record {
-    tick = is.tick;
-    due = processor_due_put s proc ∙ is.due;
-    below = is.below;
-    goes = elim is.goes [ inl least ↦ inl least | inr ahead ↦ inr (ahead_put s proc ahead) ];
-  }
-
-  pub limit_put : (until : ℕ) (s : MachineState) (proc : Proc) (limit : ℕ) → HasLimit until s proc limit → HasLimit until (put s) proc limit
-  unfolding acting_dues
-  limit_put until s proc limit has = record { free = has.free; first = has.first }
-
-  pub end_put : (until : ℕ) (s : MachineState) (end : ℕ) → IsTurnEnd until s end → IsTurnEnd until (put s) end
-  unfolding acting_dues
-  end_put until s end is = is
-
-  pub never_put : (s : MachineState) (proc : Proc) → due_or_never (put s) proc ≡ due_or_never s proc
-  never_put s Nine = refl
-  never_put s Seven = refl
-
-  pub ends_put : (until : ℕ) (s : MachineState) (ends : Ends) → HasEnds until s ends → HasEnds until (put s) ends
-  ends_put until s ends has = record { end = λ some. end_put until s ends.end (has.end some); nine = has.nine; seven = has.seven }
-
-  -- ---- geometry catches up, and a processor takes its turn
-
-  takes_put : (tick rank : ℕ) (s now : MachineState) → TakesGeometry tick rank s now → TakesGeometry tick rank (put s) (put now)
-  takes_put tick rank s now (lagging.no_geometry start) = lagging.no_geometry (put start)
-  takes_put tick rank s now (lagging.more_geometry start before next earlier behind makes) =
-      lagging.more_geometry (put start) (put before) (put next) (takes_put tick rank start before earlier) behind (makes_put 12 before next [] refl makes)
-
-  pub catches_put : (tick rank : ℕ) (s caught : MachineState) → CatchesUp tick rank s caught → CatchesUp tick rank (put s) (put caught)
-  catches_put tick rank s caught k = record { steps = takes_put tick rank s caught k.steps; level = k.level }
-
-  catches_if : (b : Bool) (tick rank : ℕ) (s caught : MachineState) → CatchesUpIf b tick rank s caught → CatchesUpIf b tick rank (put s) (put caught)
-  catches_if true tick rank s caught k = catches_put tick rank s caught k
-  catches_if false tick rank s caught same = ap put same
-
-  pub catches_for : (tick rank : ℕ) (s caught : MachineState) → CatchesUpFor tick rank s caught → CatchesUpFor tick rank (put s) (put caught)
-  catches_for tick rank s caught k =
-      subst (λ (b : Bool). CatchesUpIf b tick rank (put s) (put caught)) (sym (observes_put (actor_of rank) s)) (catches_if (observes_by (actor_of rank) s) tick rank s caught k)
-
-  catches_own : (s caught : MachineState) (proc : Proc) → CatchesUpFor (processor_of s proc).due (rank_of proc) s caught
-      → CatchesUpFor (processor_of (put s) proc).due (rank_of proc) (put s) (put caught)
-  catches_own s caught Nine k = catches_for s.nine.processor.due 22 s caught k
-  catches_own s caught Seven k = catches_for s.seven.processor.due 23 s caught k
-
-  pub turn_put : (until : ℕ) (proc : Proc) (s next : MachineState) → TakesSteps until proc s next → TakesSteps until proc (put s) (put next)
-  turn_put until proc s next (no_steps start) = no_steps (put start)
-  turn_put until proc s next (more_steps start before caught last earlier b catches makes) =
-      more_steps (put start) (put before) (put caught) (put last) (turn_put until proc start before earlier) (belongs_put until before proc b)
-      (catches_own before caught proc catches) (makes_put (rank_of proc) caught last [] (no_card proc) makes)
-
--- ---- a machine that goes on with some file
-
-pub some_sound : (s : MachineState) → RunsWithSome s → IsSound s
-some_sound s running = sound_put s.file (with_file running.0 s) running.1.sound
-
-pub some_taken : (tick rank : ℕ) (s now : MachineState) → ComesBeforeAll tick rank s → tick ≤ 2 ^ 56 → TakesGeometry tick rank s now → RunsWithSome s → RunsWithSome now
-some_taken tick rank s now before early takes running =
-    let file = running.0 in (
-      file,
-      running_taken last_limit tick rank (with_file file s) (with_file file now) (first_put file s tick rank before) (λ u le earlier. omega (arith, le, early))
-          (takes_put file tick rank s now takes) running.1,
-    )
-
-pub some_after : (rank : ℕ) (s next : MachineState) (outs : List Shown) → is_card (actor_of rank) ≡ false → RunsWithSome s → MayStep s rank
-    → reference_step rank s ≡ Makes next outs → RunsWithSome next
-some_after rank s next outs other running may h =
-    let file = running.0 in
-    let there = may_step_put file s rank may in
-    let early = there.early in
-    (file, steps_keep_running last_limit rank (with_file file s) (with_file file next) outs running.1 there (omega (arith, early)) (makes_put file rank s next outs other h))
-
 -- ---- no step changes the file
 
 card_there : (a : actor.Actor) → is_card a ≡ true → a ≡ Card
@@ -272,25 +165,3 @@ steps_keep_file rank s = elim (true_or_false (is_card (actor_of rank))) [
       subst (λ (a : actor.Actor). (left_by (awake due (step_by rank a s))).file ≡ s.file) (sym (card_there (actor_of rank) card)) (card_keeps rank due s))
   | inr other ↦ kept_put s.file (reference_step rank s) (reference_put s.file rank s other)
 ]
-
--- what each number has is the same with another file
-pub bounds_put : (file : List ℕ) (s : MachineState) → HasMachineBounds s → HasMachineBounds (with_file file s)
-bounds_put file s has = record {
-  registers = by_proc;
-  statuses = statuses_put file s has.statuses;
-  cp15 = has.cp15;
-  sizes = record {
-    main = has.sizes.main;
-    shared = has.sizes.shared;
-    wram = has.sizes.wram;
-    itcm = has.sizes.itcm;
-    dtcm = has.sizes.dtcm;
-    palette = has.sizes.palette;
-    oam = has.sizes.oam;
-    vram = has.sizes.vram;
-  };
-  units = has.units;
-} where
-  by_proc : (proc : Proc) → AreRegisters (processor_of (with_file file s) proc).registers
-  by_proc Nine = has.registers Nine
-  by_proc Seven = has.registers Seven

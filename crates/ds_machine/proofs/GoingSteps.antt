@@ -4,9 +4,9 @@ use Rattle.ds_machine.proofs.Words.{RegisterState, is_thumb, other_proc, actor_o
 use Rattle.ds_machine.proofs.Words.{CatchesUpFor, CatchesUpIf, TakesGeometry, observes_by, IsNextEvent, TookStep, acting_events_of, least_of}
 use Rattle.ds_machine.proofs.Words.{past_other, IsAhead, IsBelowFence, ProcessorStaysPrivate, rank_of, BelongsToTurn, TakesSteps, more_steps}
 use Rattle.ds_machine.proofs.Words.{no_steps, ComesFirst, HasLimit, MayStep, Fences, geometry_rank, awake, due_unless, processor_due, step_by}
-use Rattle.ds_machine.proofs.Words.{stepped_of, RunsWithSome, MachineState, ProcessorState, HasBothStatuses, nine_side, seven_side, is_blocked}
-use Rattle.ds_machine.proofs.Words.{line_of, nine_reach, outcome_of, processor_of, seven_reach, tick_of, with_processor, FetchStaysPrivate}
-use Rattle.ds_machine.proofs.Words.{is_private_to, NextEvent}
+use Rattle.ds_machine.proofs.Words.{stepped_of, MachineState, ProcessorState, HasBothStatuses, nine_side, seven_side, is_blocked, line_of, nine_reach}
+use Rattle.ds_machine.proofs.Words.{outcome_of, processor_of, seven_reach, tick_of, with_processor, FetchStaysPrivate, is_private_to, NextEvent}
+use Rattle.ds_machine.proofs.Words.{IsRunning, last_limit}
 use Rattle.ds_runs.specs.declared.actors.Actor as actor
 use Rattle.ds_machine.specs.Lagging as geometry
 use Rattle.ds_machine.specs.NextEvents.{line_kept}
@@ -16,12 +16,12 @@ use Rattle.ds_machine.proofs.ActingDues.{acting_processor, acting_split}
 use Rattle.ds_machine.proofs.DueTicks.{rank_there, steps_as}
 use Rattle.ds_machine.proofs.DecodedStays.{fetch_by_words}
 use Rattle.ds_machine.proofs.FastSteps.{in_front}
-use Rattle.ds_machine.proofs.Files.{no_card, some_after, some_sound}
 use Rattle.ds_machine.proofs.OwnRemaining.{turn_steps_fall}
 use Rattle.ds_machine.proofs.PlacesByWords.{nine_by_words, seven_by_words}
 use Rattle.ds_machine.proofs.PrivatePlaces.{private_itself}
 use Rattle.ds_machine.proofs.PrivateTests.{fetch_of_stays}
 use Rattle.ds_machine.proofs.Statuses.{statuses_done}
+use Rattle.ds_machine.proofs.Running.{steps_keep_running}
 
 -- The steps of a processor's turn, by what is kept.
 
@@ -193,7 +193,7 @@ apart_may s proc n d early goes apart = record {
   ];
 }
 
-pub took_when : (s next : MachineState) (proc : Proc) (n until : ℕ) → RunsWithSome s → IsDueAt s proc n → n < until → until ≤ 2 ^ 56
+pub took_when : (s next : MachineState) (proc : Proc) (n until : ℕ) → IsRunning last_limit s → IsDueAt s proc n → n < until → until ≤ 2 ^ 56
     → IsLeast (acting_dues s) (record { 0 = n }) (rank_of proc) ⊎ IsAhead s proc → observes_by (Processor proc) s ≡ false
     → awake (Some (record { 0 = n })) (step_by (rank_of proc) (Processor proc) s) ≡ stepped_of s answers.Made next → next.io ≡ s.io → next.keys ≡ s.keys
     → (processor_of next (other_proc proc)).due ≡ (processor_of s (other_proc proc)).due → TookStep until proc s next
@@ -204,8 +204,8 @@ took_when s next proc n until running d lt early goes apart made io keys other =
       belongs = b;
       unobserving = apart;
       made = step;
-      running = some_after (rank_of proc) s next [] (no_card proc) running (apart_may s proc n d (omega (arith, lt, early)) goes apart) step;
-      fewer = turn_steps_fall until s s next proc [] (some_sound s running) b (needs_none s proc apart) step;
+      running = steps_keep_running last_limit (rank_of proc) s next [] running (apart_may s proc n d (omega (arith, lt, early)) goes apart) (omega (arith, lt, early)) step;
+      fewer = turn_steps_fall until s s next proc [] running.sound b (needs_none s proc apart) step;
       io = io;
       keys = keys;
       other = other;

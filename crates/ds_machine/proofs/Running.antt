@@ -1,10 +1,10 @@
 use Rattle.ds_machine.proofs.Words.{ℕ, ◌≡◌, ◌≢◌, ◌<◌, ◌≤◌, ◌+◌, ◌*◌, ◌^◌, ◌⊎◌, inl, inr, List, ◌∷◌, Option, Some, None, refl, sym, ◌∙◌, ap, subst}
 use Rattle.ds_machine.proofs.Words.{arith, [], same_or_not, IsLater, LeftOut, Proc, Nine, Seven, Tick, actor_of, MovesOn, Ending, IsLeast, IsOver}
 use Rattle.ds_machine.proofs.Words.{Makes, Runs, due_at, over, stops, more, Geometry, actors_differ, at_rank, is_later, least_unique, run_exists}
-use Rattle.ds_machine.proofs.Words.{same_makes, HasShortRun, IsRunning, RunsAfter, RunsWithSome, last_limit, run_of, CatchesUpFor, ComesBeforeAll}
+use Rattle.ds_machine.proofs.Words.{same_makes, HasShortRun, IsRunning, RunsAfter, last_limit, run_of, CatchesUpFor, ComesBeforeAll}
 use Rattle.ds_machine.proofs.Words.{StepsBeforeGeometry, TakesGeometry, IsAhead, rank_of, RunsAhead, Shown, dues_of, processor_due, reference}
-use Rattle.ds_machine.proofs.Words.{reference_step, HasSoundParts, IsSound, stepped_of, MachineState, counts_of, with_file, processor_of, tick_of}
-use Rattle.ds_machine.proofs.Words.{MayAct, MayStep, own_remaining, ticks_left, GxState}
+use Rattle.ds_machine.proofs.Words.{reference_step, HasSoundParts, IsSound, stepped_of, MachineState, counts_of, processor_of, tick_of, MayAct}
+use Rattle.ds_machine.proofs.Words.{MayStep, own_remaining, ticks_left, GxState}
 use Rattle.ds_runs.specs.LastLaws.{LeadsTo, here, step}
 use Rattle.ds_runs.specs.declared.actors.Actor as actor
 use Rattle.ds_runs.proofs.Lasts.{last_after, last_ahead, last_lags}
@@ -48,14 +48,14 @@ counts_add_up limit s running =
     omega (arith, grow, few)
 
 -- before a step they fit the code
-pub few_counts : (s : MachineState) → RunsWithSome s → counts_of s ≤ 2 ^ 61
-few_counts s running = (let few : counts_of s ≤ 24 * last_limit = counts_add_up last_limit (with_file running.0 s) running.1 in omega (arith, few))
+pub few_counts : (s : MachineState) → IsRunning last_limit s → counts_of s ≤ 2 ^ 61
+few_counts s running = (let few : counts_of s ≤ 24 * last_limit = counts_add_up last_limit s running in omega (arith, few))
 
-pub few_steps : (proc : Proc) (s : MachineState) → RunsWithSome s → (processor_of s proc).steps ≤ 2 ^ 61
+pub few_steps : (proc : Proc) (s : MachineState) → IsRunning last_limit s → (processor_of s proc).steps ≤ 2 ^ 61
 few_steps Nine s running = (let few = few_counts s running in omega (arith, few))
 few_steps Seven s running = (let few = few_counts s running in omega (arith, few))
 
-pub few_events : (s : MachineState) → RunsWithSome s → s.events ≤ 2 ^ 61
+pub few_events : (s : MachineState) → IsRunning last_limit s → s.events ≤ 2 ^ 61
 few_events s running = (let few = few_counts s running in omega (arith, few))
 
 pub limits_rise : LimitsRise
@@ -256,9 +256,9 @@ runs_after s next rank (answers.Frame swapped) running may h =
 runs_after s next rank (answers.Stopped left) running may h = tt
 
 -- where geometry steps the current run has room in the code
-pub may_fit_run : (s : MachineState) (rank : ℕ) (a : actor.Actor) → MayStep s rank → RunsWithSome s → actor_of rank ≡ a → a ≡ Geometry → run_of s ≤ 2 ^ 56
+pub may_fit_run : (s : MachineState) (rank : ℕ) (a : actor.Actor) → MayStep s rank → IsRunning last_limit s → actor_of rank ≡ a → a ≡ Geometry → run_of s ≤ 2 ^ 56
 may_fit_run s rank a may running is e =
-    let few : run_of s ≤ may.tick.0 = running.1.run.own may.tick (due_of_may s rank Geometry may (is ∙ e)) in
+    let few : run_of s ≤ may.tick.0 = running.run.own may.tick (due_of_may s rank Geometry may (is ∙ e)) in
     let early = may.early in
     omega (arith, few, early)
 

@@ -196,7 +196,7 @@ pub use Rattle.ds_machine.specs.Boots.{copied, stored}
 pub use Rattle.ds_machine.specs.CardSteps.{place_word, register_word, slot_word, tcm_word}
 unfoldable pub use Rattle.ds_machine.specs.CardSteps.{map_word}
 pub use Rattle.ds_machine.specs.Channels.{channel_step, delayed_past, moved_by, one_event, past_tick}
-pub use Rattle.ds_machine.specs.CountingLaws.{HasShortRun, IsRunning, RunsAfter, RunsWithSome, last_limit, run_of}
+pub use Rattle.ds_machine.specs.CountingLaws.{HasShortRun, IsRunning, RunsAfter, last_limit, run_of}
 pub use Rattle.ds_machine.specs.DecodedSteps.{operation_outcome}
 pub use Rattle.ds_machine.specs.FenceTicks.{fence_due}
 pub use Rattle.ds_machine.specs.FrameLaws.{FollowFrames, FollowLists}

@@ -6,7 +6,7 @@ use Rattle.ds_runs.specs.LastLaws.{LeadsTo}
 use Rattle.ds_runs.specs.Runs.{IsOver, Makes, Stops, due_at}
 use Rattle.ds_machine.specs.Reference.{Shown, dues_of, reference, reference_step}
 use Rattle.ds_machine.specs.Sound.{IsSound}
-use Rattle.ds_machine.specs.States.{MachineState, counts_of, with_file}
+use Rattle.ds_machine.specs.States.{MachineState, counts_of}
 use Rattle.ds_machine.specs.TurnLaws.{MayStep, own_remaining}
 use Rattle.ds_machine.specs.declared.answers.Done.{Done}
 use Rattle.ds_machine.specs.declared.answers.Done.TheVariants.{Made, Frame, Stopped}
@@ -41,14 +41,6 @@ pub record IsRunning (limit : ℕ) (s : MachineState) : Type 0 where
 -- past all ticks at which a step may be taken
 abbrev pub last_limit : ℕ
 last_limit = 2 ^ 56 + 1
-
--- it does with the bytes of some file: which one it is matters to the steps that look at it, and to no bound
-abbrev pub RunsWithSome : MachineState → Type 0
-RunsWithSome s = (file : List ℕ) × IsRunning last_limit (with_file file s)
-
--- and with each file with which the one goes on so does the other
-abbrev pub RunsOnWithEach : MachineState → MachineState → Type 0
-RunsOnWithEach old new = (file : List ℕ) → IsRunning last_limit (with_file file old) → IsRunning last_limit (with_file file new)
 
 -- unless a step stopped, the machine goes on after it
 abbrev pub RunsAfter : Done → MachineState → Type 0

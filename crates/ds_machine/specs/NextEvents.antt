@@ -8,7 +8,7 @@ use Rattle.ds_ports.specs.Io.{is_settled}
 use Rattle.ds_ipc.specs.Ipcs.{other_proc}
 use Rattle.ds_runs.specs.Runs.{IsOver, Makes, due_at}
 use Rattle.ds_runs.specs.declared.actors.Actor.TheVariants.{Processor}
-use Rattle.ds_machine.specs.CountingLaws.{RunsWithSome}
+use Rattle.ds_machine.specs.CountingLaws.{IsRunning, last_limit}
 use Rattle.ds_machine.specs.Lagging.{observes_by}
 use Rattle.ds_machine.specs.Private.{rank_of}
 use Rattle.ds_machine.specs.Reference.{keys_due, reference_step}
@@ -91,7 +91,7 @@ pub record TookStep (until : ℕ) (proc : Proc) (s next : MachineState) : Type 0
   pub belongs : BelongsToTurn until s proc
   pub unobserving : observes_by (Processor proc) s ≡ false
   pub made : reference_step (rank_of proc) s ≡ Makes next []
-  pub running : RunsWithSome next
+  pub running : IsRunning last_limit next
   pub fewer : own_remaining until next proc < own_remaining until s proc
   pub io : next.io ≡ s.io
   pub keys : next.keys ≡ s.keys
@@ -104,7 +104,7 @@ pub record GoesFast (until : ℕ) (proc : Proc) (next_event : NextEvent) (end li
   pub down : line_kept next_event proc ≡ false
   pub events : 0 < end → IsTurnEnd until s end
   pub least : HasLimit until s proc limit
-  pub running : RunsWithSome s
+  pub running : IsRunning last_limit s
 
 -- what trying one gives: it was taken, and the next goes by the same; or no step belongs to the turn any more; or it isn't a fast one. Where it
 -- wasn't taken the machine is as it was

@@ -1,4 +1,4 @@
-use Rattle.std.specs.Prelude.{ℕ, ◌+◌, List}
+use Rattle.std.specs.Prelude.{ℕ, ◌+◌, List, [], Option, None, Some}
 use Rattle.arm_core.specs.Registers.{RegisterState}
 use Rattle.cp15_tcm.specs.Registers.{Cp15State}
 use Rattle.ds_base.specs.declared.keys.KeyLine.{KeyLine}
@@ -41,8 +41,12 @@ pub record MachineState : Type 0 where
   pub events : ℕ
   pub file : List ℕ
 
--- The machine with a cartridge's file. A machine holds none by itself, and who lets it step hands in the cartridge: its state is read together with
--- that file
+-- the bytes of the cartridge in the slot; an empty slot has none
+abbrev pub file_in : Option (List ℕ) → List ℕ
+file_in None = []
+file_in (Some file) = file
+
+-- The machine with another cartridge's file. A machine may step with a cartridge that is lent to it: its state is read together with that file
 abbrev pub with_file : List ℕ → MachineState → MachineState
 with_file file s = record s { file = file }
 

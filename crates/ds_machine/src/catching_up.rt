@@ -6,7 +6,7 @@ ghost use Rattle.ds_ports.specs.Acting.{is_quiet};
 ghost use Rattle.ds_runs.specs.Runs.{Makes};
 ghost use Rattle.ds_machine.specs.Acting as acting;
 ghost use Rattle.ds_machine.specs.Acting.{is_behind};
-ghost use Rattle.ds_machine.specs.CountingLaws.{RunsWithSome};
+ghost use Rattle.ds_machine.specs.CountingLaws.{last_limit, IsRunning};
 ghost use Rattle.ds_machine.specs.Lagging.{CatchesUp, CatchesUpFor, ComesBeforeAll};
 ghost use Rattle.ds_machine.specs.Hearing as hearing;
 ghost use Rattle.ds_machine.specs.Hearing.{geometry_rank};
@@ -62,7 +62,7 @@ impl Parts {
     /// Takes the steps of quiet geometry that are due before the place of a rank at a tick.
     #[inline(never)]
     pub fn catch_up(&mut self, tick: Tick, rank: u8)
-        requires running { RunsWithSome self.old }
+        requires running { IsRunning last_limit self.old }
         requires before { ComesBeforeAll tick.0 rank self.old }
         requires early { tick.0 ≤ 2 ^ 56 }
         ensures { CatchesUp tick.0 rank self.old self.new }
@@ -75,7 +75,7 @@ impl Parts {
     /// Catches up with a step that may be taken, where that observes geometry. The answer is whether anything changed.
     #[inline(always)]
     pub fn catch_up_before(&mut self, tick: Tick, rank: u8) -> bool
-        requires running { RunsWithSome self.old }
+        requires running { IsRunning last_limit self.old }
         requires early { tick.0 ≤ 2 ^ 56 }
         requires may { MayAct self.old tick rank }
         ensures caught { CatchesUpFor tick.0 rank self.old self.new }

@@ -49,7 +49,7 @@ impl Parts {
         Done::Made
     }
 
-    /// The event of an actor behind the ports, with the cartridge's file.
+    /// The event of an actor behind the ports, with a cartridge's file.
     #[tactic(auto, using(crate::proofs::Files::event_with))]
     pub fn step_event(&mut self, file: &[u8], actor: Actor, tick: Tick)
         requires numbered { IsNumbered actor }

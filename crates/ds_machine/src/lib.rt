@@ -21,9 +21,9 @@
 //!   moved a unit, goes on once that unit's waits are over (`due_past_unit`). Geometry's step is its head command; where that ends a stall ARM9,
 //!   unless it is halted, is due after its tick at the earliest (`after_geometry`). While a processor is halted the tick of its next step is 0
 //!   (`went_on`, `past_tick`). The display's step is its event with palettes and OAM (`video_step`): where it makes a frame whole it swaps
-//!   geometry lists that wait, and puts out the frame, whether a swap waited, and the lists of the last swap. The state is read with the file
-//!   of the cartridge that is handed in (`with_file`), before the step and after it, and no step changes that file (`touch_laws`, clause
-//!   `file`).
+//!   geometry lists that wait, and puts out the frame, whether a swap waited, and the lists of the last swap. `step` is lent a cartridge, and
+//!   its state is read with that file (`with_file`), before the step and after it; `step_inserted` is the same step with the cartridge in the
+//!   machine's slot (`insert`). No step changes the file (`touch_laws`, clause `file`).
 //! - `looked` is the value that a processor's read at a tick gives at an address (`looked_of`), where anything answers, with nothing read; `pc`,
 //!   `cpsr` and `is_halted` tell a processor's address, its CPSR, and whether it is halted.
 //!

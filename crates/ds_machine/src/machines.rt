@@ -22,7 +22,7 @@ ghost use Rattle.ds_machine.specs.declared.answers.Private.TheVariants.{Yes};
 ghost use Rattle.ds_machine.specs.Reference.{dues_of};
 ghost use Rattle.ds_machine.specs.Sound.{HasSoundParts};
 ghost use Rattle.ds_machine.specs.StepAnswers.{done_of, IsDue, Steps};
-ghost use Rattle.ds_machine.specs.CountingLaws.{last_limit, IsRunning, RunsAfter, RunsOnWithEach, RunsWithSome};
+ghost use Rattle.ds_machine.specs.CountingLaws.{last_limit, IsRunning, RunsAfter};
 ghost use Rattle.ds_machine.specs.States.{with_file, MachineState};
 ghost use Rattle.ds_machine.specs.Statuses.{HasBothStatuses};
 ghost use Rattle.ds_machine.specs.Steps.{processor_of, tick_of};
@@ -34,7 +34,7 @@ use crate::answers::{Done, Private, Seen};
 use crate::fences;
 use crate::going::Gone;
 use crate::next_events::{Ends, NextEvent};
-use crate::parts::Parts;
+use crate::parts::{Parts, bytes_in};
 use arm_exec::enters;
 use ds_base::{Due, Keys, LeftOut, Memory, Proc, Tick, Width, known};
 use ds_header::Cart;
@@ -43,8 +43,8 @@ use gx_geometry::Lists;
 use std::alloc::{AllocError, Global};
 use std::marker::Model;
 
-/// The whole console but for its outside: memories, processors, units. The cartridge isn't of it: `step` is handed it, and the state that contracts
-/// see has an empty file.
+/// The whole console but for its outside: memories, processors, units, and the cartridge that was inserted, whose file is of the state that contracts
+/// see. With no cartridge that file is empty; a step may then be lent one.
 #[derive(Drop)]
 pub struct Machine {
     parts: Parts,
@@ -67,7 +67,7 @@ impl Model for Machine {
 impl Machine {
     /// The machine as it is when it is switched on with a cartridge and a key script: ARM9's image is copied to memory, then ARM7's, then the header;
     /// both processors are due at once. The images go to RAM, and leave the units behind the ports as they are at boot. No step was taken, so that
-    /// none stopped it. All memory of a run is taken here.
+    /// none stopped it. The cartridge isn't inserted: its file is read, and the slot is empty. All memory of a run is taken here.
     pub fn new(alloc: Global, cart: &Cart, keys: Keys) -> Result<Machine, AllocError>
         ensures booted { IfOk result (λ machine. with_file cart.now machine ≡ machine_booted cart.now keys) }
         ensures units { IfOk result (λ machine. machine.io ≡ io_at_boot) }
@@ -77,6 +77,33 @@ impl Machine {
         known!(parts.laws());
         let next_event = parts.next_event();
         Ok(Machine { parts, next_event })
+    }
+
+    /// Inserts a cartridge; one that was inserted before is let go.
+    pub fn insert(&mut self, cart: Cart)
+        ensures { self.new ≡ with_file cart self.old }
+    {
+        self.parts.slot = Some(cart);
+        let next_event = self.parts.next_event();
+        self.next_event = next_event;
+    }
+
+    /// The whole file of the cartridge that was inserted; with none it is empty.
+    pub fn file(&self) -> &[u8]
+        ensures { result.now ≡ self.now.file }
+    {
+        bytes_in(&self.parts.slot)
+    }
+
+    /// Becomes another machine, but keeps the cartridge that was inserted.
+    pub fn take_over(&mut self, machine: Machine)
+        ensures { self.new ≡ with_file self.old.file machine }
+    {
+        let slot = self.parts.slot.take();
+        self.parts = machine.parts;
+        self.parts.slot = slot;
+        let next_event = self.parts.next_event();
+        self.next_event = next_event;
     }
 
     /// The actor that is due first, quiet geometry among them.
@@ -107,8 +134,8 @@ impl Machine {
     /// before it; or of a processor that may step before its turn. Then the geometry FIFO's interrupt is told as it is and DMA is triggered that
     /// waits for it, and halted processors wake whose IE and IF share a bit. A step that needs what is left out stops; the accesses before the
     /// refused one stand, and registers and due ticks are as they were. After such a step no other may be taken: `running` says that the last one
-    /// didn't stop. It is so at boot, and after each step that is taken. The machine is read together with the cartridge's file, before the step and
-    /// after it; a machine's own state holds none.
+    /// didn't stop. It is so at boot, and after each step that is taken. The cartridge is lent for the step, whatever is inserted: the machine is
+    /// read together with its file, before the step and after it.
     #[inline(always)]
     pub fn step(&mut self, cart: &Cart, rank: u8) -> Done
         requires running { IsRunning last_limit (with_file cart.now self.old) }
@@ -122,20 +149,32 @@ impl Machine {
         done
     }
 
-    /// A processor's step of a turn, on a machine that goes on: it is the least that acts, or may be taken before its turn. Before it, where it
-    /// observes geometry, the steps of quiet geometry are taken that are due before it. A stop is put where stops are kept. The machine is read
-    /// together with the cartridge's file, at which no processor's step looks.
+    /// The same step with the cartridge that was inserted.
     #[inline(always)]
-    pub fn step_of_turn(&mut self, cart: &Cart, proc: Proc, tick: Tick, stop: &mut Option<LeftOut>)
-        requires running { IsRunning last_limit (with_file cart.now self.old) }
+    pub fn step_inserted(&mut self, rank: u8) -> Done
+        requires running { IsRunning last_limit self.old }
+        requires may { MayStep self.old rank }
+        ensures step { Steps rank self.old result self.new }
+        ensures running { RunsAfter result self.new }
+    {
+        let done = self.parts.step_inserted(rank);
+        let next_event = self.parts.next_event();
+        self.next_event = next_event;
+        done
+    }
+
+    /// A processor's step of a turn, on a machine that goes on: it is the least that acts, or may be taken before its turn. Before it, where it
+    /// observes geometry, the steps of quiet geometry are taken that are due before it. A stop is put where stops are kept.
+    #[inline(always)]
+    pub fn step_of_turn(&mut self, proc: Proc, tick: Tick, stop: &mut Option<LeftOut>)
+        requires running { IsRunning last_limit self.old }
         requires early { tick.0 ≤ 2 ^ 56 }
         requires may { MayAct self.old tick (rank_of proc) }
         requires none { stop.old ≡ None }
-        ensures step { (caught : MachineState) × CatchesUpFor tick.0 (rank_of proc) (with_file cart.now self.old) caught
-            × Steps (rank_of proc) caught (done_of stop.new) (with_file cart.now self.new) }
-        ensures running { RunsAfter (done_of stop.new) (with_file cart.now self.new) }
+        ensures step { (caught : MachineState) × CatchesUpFor tick.0 (rank_of proc) self.old caught
+            × Steps (rank_of proc) caught (done_of stop.new) self.new }
+        ensures running { RunsAfter (done_of stop.new) self.new }
     {
-        known!(cart);
         let rank = fences::rank_of(proc);
         let _caught = self.parts.catch_up_before(tick, rank);
         self.parts.step_own(proc, stop);
@@ -163,7 +202,7 @@ impl Machine {
     /// interrupt line is up none is taken: the line is asked for once a turn, since no step changes it, and a step may clear I.
     #[inline(always)]
     pub fn go_fast(&mut self, proc: Proc, until: Tick, end: u64, limit: u64) -> bool
-        requires running { RunsWithSome self.old }
+        requires running { IsRunning last_limit self.old }
         requires early { until.0 ≤ 2 ^ 56 }
         requires limit { HasLimit until.0 self.old proc limit }
         requires end { 0 < end → IsTurnEnd until.0 self.old end }
@@ -258,11 +297,11 @@ impl Machine {
 
     /// On a machine that goes on, takes the steps of quiet geometry that are due before the place of a rank at a tick, before which nobody acts.
     pub fn catch_up(&mut self, tick: Tick, rank: u8)
-        requires running { RunsWithSome self.old }
+        requires running { IsRunning last_limit self.old }
         requires before { ComesBeforeAll tick.0 rank self.old }
         requires early { tick.0 ≤ 2 ^ 56 }
         ensures caught { CatchesUp tick.0 rank self.old self.new }
-        ensures running { RunsOnWithEach self.old self.new }
+        ensures running { IsRunning last_limit self.new }
     {
         if self.parts.is_behind(tick, rank) {
             self.parts.catch_up(tick, rank);
@@ -276,11 +315,11 @@ impl Machine {
     /// may step before its turn.
     #[inline(always)]
     pub fn catch_up_before(&mut self, tick: Tick, rank: u8)
-        requires running { RunsWithSome self.old }
+        requires running { IsRunning last_limit self.old }
         requires early { tick.0 ≤ 2 ^ 56 }
         requires may { MayAct self.old tick rank }
         ensures caught { CatchesUpFor tick.0 rank self.old self.new }
-        ensures running { RunsOnWithEach self.old self.new }
+        ensures running { IsRunning last_limit self.new }
     {
         if self.parts.catch_up_before(tick, rank) {
             let next_event = self.parts.next_event();

@@ -6,7 +6,7 @@ ghost use Rattle.ds_machine.specs.Booted.{machine_blank, machine_booted};
 ghost use Rattle.ds_machine.specs.Inspections.{fetch_of};
 ghost use Rattle.ds_machine.specs.Processors.{state_of};
 ghost use Rattle.ds_machine.specs.Sound.{HasSoundParts};
-ghost use Rattle.ds_machine.specs.States.{with_file};
+ghost use Rattle.ds_machine.specs.States.{file_in, with_file};
 ghost use Rattle.ds_machine.specs.Steps.{is_blocked, line_of, processor_of};
 
 use crate::processors::Processor;
@@ -37,7 +37,7 @@ pub struct Seven {
     pub decoder: Decoder<4>,
 }
 
-/// Memories, processors, units.
+/// Memories, processors, units, and the cartridge that was inserted, if one was.
 #[derive(Drop)]
 pub struct Parts {
     pub nine: Nine,
@@ -46,13 +46,14 @@ pub struct Parts {
     pub io: Io,
     pub script: Script,
     pub events: u64,
+    pub slot: Option<Cart>,
 }
 
 impl Model for Parts {
     ghost use Rattle.ds_base.specs.declared.processors.Arch.TheVariants.{V4, V5};
     ghost use Rattle.ds_machine.specs.Processors.{state_of};
-    ghost use Rattle.ds_machine.specs.States.{MachineState};
-    ghost use Rattle.std.specs.Prelude.{◌≡◌, []};
+    ghost use Rattle.ds_machine.specs.States.{file_in, MachineState};
+    ghost use Rattle.std.specs.Prelude.{◌≡◌};
 
     ghost Value = { MachineState };
 
@@ -71,10 +72,21 @@ impl Model for Parts {
       io = m.io;
       keys = m.script;
       events = m.events;
-      file = [];
+      file = file_in m.slot;
     } };
 
     ghost invariant = { λ m. (m.nine.processor.core.arch ≡ V5) × (m.seven.processor.core.arch ≡ V4) };
+}
+
+/// The bytes of the cartridge in the slot; an empty slot has none.
+#[inline(always)]
+pub fn bytes_in(slot: &Option<Cart>) -> &[u8]
+    ensures { result.now ≡ file_in slot.now }
+{
+    match slot {
+        Some(cart) => cart.bytes(),
+        None => &[],
+    }
 }
 
 impl Parts {
@@ -110,6 +122,7 @@ impl Parts {
             io: Io::new(alloc)?,
             script: Script::new(keys),
             events: 0,
+            slot: None,
         })
     }
 

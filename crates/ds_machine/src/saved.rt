@@ -28,7 +28,6 @@ use decode_cache::Decoder;
 use ds_base::{Interrupt, Keys, Tick};
 use ds_card::Card;
 use ds_dma::Dma;
-use ds_header::Cart;
 use ds_ports::{Io, IoParts, ProcessorIo};
 use ds_state::{Packer, Unpacked, Unpacker};
 use ds_timers::Irq;
@@ -127,21 +126,21 @@ impl Parts {
         Ok(())
     }
 
-    /// Takes what `pack` puts, with a cartridge, a whole key script, and the counts of steps of ARM9, of ARM7 and of all others.
+    /// Takes what `pack` puts, with a cartridge's file, a whole key script, and the counts of steps of ARM9, of ARM7 and of all others.
     #[tactic(auto, using(crate::proofs::SavedParts::machine_reads))]
     pub fn unpack(
         alloc: Global,
-        cart: &Cart,
+        file: &[u8],
         keys: Keys,
         steps: [u64; 3],
         from: &mut Unpacker,
         at: Tick,
     ) -> Result<Parts, Unpacked>
         requires { IsEarly (Some at) }
-        ensures { GivesIn (λ p. with_file cart.now p) result from.new
-            (read_format (machine_format cart.now keys (slice_index steps 0) (slice_index steps 1) (slice_index steps 2) at.0) at.0 from.old) }
+        ensures { GivesIn (λ p. with_file file.now p) result from.new
+            (read_format (machine_format file.now keys (slice_index steps 0) (slice_index steps 1) (slice_index steps 2) at.0) at.0 from.old) }
     {
-        let taken = Taken::take(alloc, from, at, cart.bytes())?;
+        let taken = Taken::take(alloc, from, at, file)?;
         let parts = taken.made(alloc, keys, steps, at)?;
         Ok(parts)
     }
@@ -239,6 +238,7 @@ impl Taken {
             io,
             script,
             events,
+            slot: None,
         }
     }
 }

@@ -9,17 +9,17 @@ ghost use Rattle.ds_machine.specs.TurnLaws.{MayStep};
 ghost use Rattle.ds_machine.specs.GuardedSteps.{IsFreeFor};
 ghost use Rattle.ds_machine.specs.Processors.{stop_in};
 ghost use Rattle.ds_machine.specs.Reference.{awake, due_by, step_by};
-ghost use Rattle.ds_machine.specs.States.{with_file};
+ghost use Rattle.ds_machine.specs.States.{file_in, with_file};
 ghost use Rattle.ds_machine.specs.Private as private;
 ghost use Rattle.ds_machine.specs.StepAnswers.{done_of, stepped_of, Steps};
-ghost use Rattle.ds_machine.specs.CountingLaws.{RunsWithSome};
+ghost use Rattle.ds_machine.specs.CountingLaws.{last_limit, IsRunning};
 ghost use Rattle.ds_machine.specs.Touching.{DataStaysNear, DataStaysPrivate};
 ghost use Rattle.ds_base.specs.Processors.{ticks_per_clock};
 ghost use Rattle.ds_machine.specs.Steps.{in_ticks, machine_concluded, goes_on, gone_by, is_halted, line_of, due_past_unit, outcome_of, processor_of, wakes, went_on, with_processor, woken, woken_one, ended};
 
 use crate::answers::Done;
 use crate::fences::rank_of;
-use crate::parts::Parts;
+use crate::parts::{Parts, bytes_in};
 use crate::processors::{past_unit, ticks_of};
 use crate::steps::{Came, Fast, take_fast_in_view, take_in_view};
 use arm_core::Stepped;
@@ -41,11 +41,11 @@ fn done_of(stop: Option<LeftOut>) -> Done
 
 impl Parts {
     /// The step of the least actor, or of the least acting one, where its step doesn't observe geometry, or of a processor that may step before its
-    /// turn, on a machine that goes on, with the cartridge's file.
+    /// turn, on a machine that goes on, with a cartridge's file.
     #[inline(always)]
     pub fn step_actor(&mut self, file: &[u8], rank: u8) -> Done
-        requires may { MayStep self.old rank }
-        requires running { RunsWithSome self.old }
+        requires may { MayStep (with_file file.now self.old) rank }
+        requires running { IsRunning last_limit (with_file file.now self.old) }
         ensures { Steps rank (with_file file.now self.old) result (with_file file.now self.new) }
     {
         let actor = Actor::of(rank);
@@ -55,7 +55,20 @@ impl Parts {
         }
     }
 
-    /// The step of an actor that is due at a tick, with the cartridge's file.
+    /// The same step with the cartridge that was inserted.
+    #[inline(always)]
+    pub fn step_inserted(&mut self, rank: u8) -> Done
+        requires may { MayStep self.old rank }
+        requires running { IsRunning last_limit self.old }
+        ensures { Steps rank self.old result self.new }
+    {
+        let slot = self.slot.take();
+        let done = self.step_actor(bytes_in(&slot), rank);
+        self.slot = slot;
+        done
+    }
+
+    /// The step of an actor that is due at a tick, with a cartridge's file.
     #[inline(always)]
     #[tactic(auto, using(crate::proofs::Files::awake_with))]
     fn step_at(&mut self, file: &[u8], rank: u8, actor: Actor, tick: Tick) -> Done
@@ -90,7 +103,7 @@ impl Parts {
     #[inline(always)]
     pub fn step_own(&mut self, proc: Proc, stop: &mut Option<LeftOut>)
         requires may { MayStep self.old (private.rank_of proc) }
-        requires running { RunsWithSome self.old }
+        requires running { IsRunning last_limit self.old }
         requires none { stop.old ≡ None }
         ensures { Steps (private.rank_of proc) self.old (done_of stop.new) self.new }
     {

@@ -3,6 +3,7 @@
 
 mod display;
 mod geometry;
+mod lent;
 mod observed;
 mod room;
 mod saved;

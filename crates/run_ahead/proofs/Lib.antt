@@ -1,5 +1,4 @@
 mod Words
-pub mod LoadedMachine
 pub mod RunningOn
 pub mod SavedStates
 pub mod StepTurns

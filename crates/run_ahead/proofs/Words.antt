@@ -15,7 +15,6 @@ pub use Rattle.ds_machine.proofs.ActingPlaces.{acted_fewer}
 pub use Rattle.ds_machine.proofs.ActingSteps.{ActedLeaves, ActedStops, acted_keeps, acted_stops, acting_stops}
 pub use Rattle.ds_machine.proofs.CatchingUp.{behind_is, caught_so}
 pub use Rattle.ds_machine.proofs.DueTicks.{due_of_rank, own_tick}
-pub use Rattle.ds_machine.proofs.Files.{belongs_put, dues_put, limit_put, may_act_put}
 pub use Rattle.ds_machine.proofs.OwnRemaining.{turn_steps_fall}
 pub use Rattle.ds_machine.proofs.Running.{counts_add_up, few_where_stops, limits_rise}
 pub use Rattle.ds_machine.proofs.TurnSteps.{running_along, takes_along}
@@ -23,12 +22,11 @@ pub use Rattle.ds_machine.specs.Acting.{acting_dues, is_behind}
 pub use Rattle.ds_machine.specs.Back.{HasMachineBounds}
 pub use Rattle.ds_machine.specs.CountingLaws.{IsRunning, last_limit}
 pub use Rattle.ds_machine.specs.Frames.{last_frame, last_lists}
-pub use Rattle.ds_machine.specs.Inspections.{memory_of}
 pub use Rattle.ds_machine.specs.Lagging.{CatchesUp, CatchesUpFor, CatchesUpIf, ComesBeforeAll, TakesGeometry, observes_by}
 pub use Rattle.ds_machine.specs.Private.{rank_of}
 pub use Rattle.ds_machine.specs.Reference.{Shown, dues_of, next_shown, reference, reference_step}
 pub use Rattle.ds_machine.specs.Sound.{IsSound}
-pub use Rattle.ds_machine.specs.States.{MachineState, ProcessorState, counts_of, with_file}
+pub use Rattle.ds_machine.specs.States.{MachineState, counts_of, with_file}
 pub use Rattle.ds_machine.specs.StepAnswers.{Steps}
 pub use Rattle.ds_machine.specs.Steps.{processor_of, tick_of}
 pub use Rattle.ds_machine.specs.TurnLaws.{HasEnds, HasLimit, IsLeastBelow, MayAct, own_remaining, ticks_left}

@@ -23,12 +23,11 @@ ghost use Rattle.run_ahead.specs.declared.turns.Turned.TheVariants.{Ran, Stopped
 mod looks;
 mod saved;
 
-use crate::loaded::Loaded;
 use crate::machine_turns::{take_stretch_of, take_turn};
 use crate::turns::Turned;
 use ds_base::{Due, Keys, LeftOut, Memory, Proc, Tick, known};
 use ds_header::Cart;
-use ds_machine::{Done, Ends, First, Seen, time_laws};
+use ds_machine::{Done, Ends, First, Machine, Seen, time_laws};
 use gx_geometry::Lists;
 pub use saved::state_laws;
 use std::alloc::{AllocError, Global};
@@ -50,7 +49,7 @@ pub struct Counts {
 /// A console. No call but `turn` and `run_on`, which is turns alone, changes it.
 #[derive(Drop)]
 pub struct Console {
-    machine: Loaded,
+    machine: Machine,
     limit: u64,
     stopped: Option<LeftOut>,
     open_until: u64,
@@ -83,7 +82,8 @@ impl Console {
         ensures parts { IfOk result (λ console. HasSoundParts console.machine) }
     {
         known!(time_laws());
-        let machine = Loaded::new(alloc, cart, keys)?;
+        let mut machine = Machine::new(alloc, &cart, keys)?;
+        machine.insert(cart);
         Ok(Console {
             machine,
             limit: 0,

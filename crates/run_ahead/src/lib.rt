@@ -1,8 +1,8 @@
 //! The console: a machine that runs by turns, with the greatest limit that it was run to, and the stop where it came to one.
 //!
 //! Proved:
-//! - `Console::new` is a console that is switched on with a cartridge, with limit 0, no stop and no turn. It keeps the cartridge, and hands it to
-//!   each step of its machine (`Loaded`): contracts see the machine with that file, so all turns are of one cartridge.
+//! - `Console::new` is a console that is switched on with a cartridge, with limit 0, no stop and no turn. The cartridge stands in
+//!   its machine's slot, so all turns are of one cartridge.
 //! - `Console::turn`, clause `turn`: nothing where no actor is due below the limit. Where quiet geometry alone is, all its steps that are
 //!   due below it (`TakesQuiet`). Otherwise, where the least acting actor is no processor, exactly its reference step (`TakesEvent`). Where
 //!   it is a processor, that processor's steps, as long as the next belongs to the turn: it is due below the limit, and it is the least
@@ -46,7 +46,6 @@
 mod consoles;
 mod heads;
 mod laws;
-mod loaded;
 mod machine_turns;
 mod turns;
 

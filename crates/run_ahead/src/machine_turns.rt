@@ -9,9 +9,8 @@ ghost use Rattle.ds_machine.specs.CountingLaws.{last_limit, IsRunning};
 ghost use Rattle.ds_machine.specs.TurnSteps.{BelongsToTurn, TakesSteps};
 ghost use Rattle.run_ahead.specs.Inside.{HasProcessor, TookSlowly, TookStretch, TookTurn};
 
-use crate::loaded::Loaded;
 use ds_base::{Due, LeftOut, Proc, Tick};
-use ds_machine::{Done, Ends, First};
+use ds_machine::{Done, Ends, First, Machine};
 use ds_runs::Actor;
 
 /// The processor of a rank, where it is one's.
@@ -41,7 +40,7 @@ pub enum Slow {
 /// be moved at each turn.
 #[inline(never)]
 fn step_slowly(
-    machine: &mut Loaded,
+    machine: &mut Machine,
     stop: &mut Option<LeftOut>,
     proc: Proc,
     until: Tick,
@@ -70,7 +69,7 @@ fn step_slowly(
 /// processor's tick alone, after any other all is asked for again.
 #[inline(always)]
 pub fn take_stretch(
-    machine: &mut Loaded,
+    machine: &mut Machine,
     stop: &mut Option<LeftOut>,
     ends: &mut Ends,
     proc: Proc,
@@ -116,7 +115,7 @@ pub fn take_stretch(
 /// Takes the steps of a turn whose first tick past it is known: two copies of the loop over steps, one for each processor.
 #[inline(always)]
 pub fn take_stretch_of(
-    machine: &mut Loaded,
+    machine: &mut Machine,
     stop: &mut Option<LeftOut>,
     ends: &mut Ends,
     first: First,
@@ -141,7 +140,7 @@ pub fn take_stretch_of(
 
 /// Takes the rest of a processor's steps that belong to its turn, where it isn't known when it isn't the least acting one any more.
 #[inline(never)]
-fn end_slowly(machine: &mut Loaded, stop: &mut Option<LeftOut>, proc: Proc, until: Tick) -> bool
+fn end_slowly(machine: &mut Machine, stop: &mut Option<LeftOut>, proc: Proc, until: Tick) -> bool
     requires early { until.0 ≤ 2 ^ 56 }
     requires going { IsRunning last_limit machine.old }
     ensures took { TookStretch until.0 proc machine.old stop.new machine.new }
@@ -154,7 +153,7 @@ fn end_slowly(machine: &mut Loaded, stop: &mut Option<LeftOut>, proc: Proc, unti
 
 /// The same, where the turn isn't taken at once: the fast path stands elsewhere.
 #[inline(never)]
-fn take_stretch_slowly(machine: &mut Loaded, proc: Proc, until: Tick) -> Option<LeftOut>
+fn take_stretch_slowly(machine: &mut Machine, proc: Proc, until: Tick) -> Option<LeftOut>
     requires early { until.0 ≤ 2 ^ 56 }
     requires going { IsRunning last_limit machine.old }
     ensures { TookStretch until.0 proc machine.old result machine.new }
@@ -170,7 +169,7 @@ fn take_stretch_slowly(machine: &mut Loaded, proc: Proc, until: Tick) -> Option<
 }
 
 /// Takes an event's step that is the least of those who act; where it observes geometry, geometry catches up before it.
-fn take_event(machine: &mut Loaded, acting: Due, until: Tick) -> Done
+fn take_event(machine: &mut Machine, acting: Due, until: Tick) -> Done
     requires early { until.0 ≤ 2 ^ 56 }
     requires going { IsRunning last_limit machine.old }
     requires acting { IsActing machine.old acting }
@@ -179,12 +178,12 @@ fn take_event(machine: &mut Loaded, acting: Due, until: Tick) -> Done
     ensures { TookTurn until.0 machine.old result machine.new }
 {
     machine.catch_up_before(acting.tick, acting.rank);
-    machine.step(acting.rank)
+    machine.step_inserted(acting.rank)
 }
 
 /// Takes a turn of a machine, of which the least actor that acts is given: where it is due below a limit, an event's step, or the steps of a
 /// processor that belong to its turn; where quiet geometry alone is, all its steps below the limit.
-pub fn take_turn(machine: &mut Loaded, acting: Due, until: Tick) -> Done
+pub fn take_turn(machine: &mut Machine, acting: Due, until: Tick) -> Done
     requires early { until.0 ≤ 2 ^ 56 }
     requires going { IsRunning last_limit machine.old }
     requires acting { IsActing machine.old acting }

@@ -70,7 +70,14 @@ fn taken(alloc: Global, cart: &Cart, bytes: &[u8], at: u64) -> Result<u32, Alloc
     are_narrow(some);
     let mut from = Unpacker::new(some);
     let at = Tick(at % 0x1_0000);
-    match Machine::unpack(alloc, cart, Keys::new(alloc), [0, 0, 0], &mut from, at) {
+    match Machine::unpack(
+        alloc,
+        cart.bytes(),
+        Keys::new(alloc),
+        [0, 0, 0],
+        &mut from,
+        at,
+    ) {
         Ok(machine) => place_of(alloc, &machine, some, from.place()),
         Err(Unpacked::Bad { offset }) => Ok(offset.saturating_add(10_000_000)),
         Err(Unpacked::NoMemory) => Ok(97),

@@ -112,30 +112,29 @@ pub fn script(alloc: Global, tick: u64, pressed: u16) -> Result<Keys, AllocError
 #[derive(Drop)]
 struct Tested {
     machine: Machine,
-    cart: Cart,
     stopped: bool,
 }
 
 impl Model for Tested {
     ghost use Rattle.std.specs.Prelude.{◌≡◌, false};
     ghost use Rattle.ds_machine.specs.CountingLaws.{last_limit, IsRunning};
-    ghost use Rattle.ds_machine.specs.States.{MachineState, with_file};
+    ghost use Rattle.ds_machine.specs.States.{MachineState};
 
     ghost Value = { MachineState };
 
     ghost view = { λ t. t.machine };
 
-    ghost invariant = { λ t. t.stopped ≡ false → IsRunning last_limit (with_file t.cart t.machine) };
+    ghost invariant = { λ t. t.stopped ≡ false → IsRunning last_limit t.machine };
 }
 
 impl Tested {
     /// A machine at boot.
     fn new(alloc: Global, cart: Cart, keys: Keys) -> Result<Tested, AllocError> {
-        let machine = Machine::new(alloc, &cart, keys)?;
+        let mut machine = Machine::new(alloc, &cart, keys)?;
+        machine.insert(cart);
         running_laws();
         Ok(Tested {
             machine,
-            cart,
             stopped: false,
         })
     }
@@ -146,7 +145,7 @@ impl Tested {
         if self.stopped || due.tick.0 > 0x10_0000 {
             return None;
         }
-        match self.machine.step(&self.cart, due.rank) {
+        match self.machine.step_inserted(due.rank) {
             Done::Made => Some(Done::Made),
             Done::Frame { swapped } => Some(Done::Frame { swapped }),
             Done::Stopped(left) => {
@@ -164,7 +163,7 @@ impl Tested {
         }
         acting_laws();
         self.machine.catch_up_before(acting.tick, acting.rank);
-        match self.machine.step(&self.cart, acting.rank) {
+        match self.machine.step_inserted(acting.rank) {
             Done::Made => Some(Done::Made),
             Done::Frame { swapped } => Some(Done::Frame { swapped }),
             Done::Stopped(left) => {

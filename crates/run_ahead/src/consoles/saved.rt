@@ -11,7 +11,6 @@ ghost use Rattle.run_ahead.specs.Saved.{console_of, GivesState, IsReadBack, Stat
 
 use super::Console;
 use crate::heads::Head;
-use crate::loaded::Loaded;
 use ds_base::{Keys, Proc, Tick, known};
 use ds_header::Cart;
 use ds_machine::{Machine, back_laws, saved_laws};
@@ -62,10 +61,11 @@ impl Console {
         ensures state { GivesState (λ console. console) result (read_state digest.now until.0 cart keys bytes.now) }
         ensures open { IfOk result (λ console. (console.stopped ≡ None) × (console.limit < until.0)) }
     {
-        let taken = Taken::read(alloc, &cart, keys, digest, bytes, until)?;
-        let Taken { machine, head } = taken;
+        let taken = Taken::read(alloc, cart.bytes(), keys, digest, bytes, until)?;
+        let Taken { mut machine, head } = taken;
+        machine.insert(cart);
         Ok(Console {
-            machine: Loaded::of(machine, cart),
+            machine,
             limit: head.at,
             stopped: None,
             open_until: head.at,
@@ -90,9 +90,9 @@ impl Console {
         ensures open { IfOk result (λ _. (self.new.stopped ≡ None) × (self.new.limit < until.0)) }
         ensures err { OnErr result (self.new ≡ self.old) }
     {
-        let taken = Taken::read(alloc, self.machine.cart(), keys, digest, bytes, until)?;
+        let taken = Taken::read(alloc, self.machine.file(), keys, digest, bytes, until)?;
         let Taken { machine, head } = taken;
-        self.machine.put(machine);
+        self.machine.take_over(machine);
         self.limit = head.at;
         self.stopped = None;
         self.open_until = head.at;
@@ -123,11 +123,11 @@ struct Taken {
 }
 
 impl Taken {
-    /// What bytes stand for, of a cartridge, whose SHA-256 is given, and of a key script; it is to be run on to a tick.
+    /// What bytes stand for, of a cartridge's file, whose SHA-256 is given, and of a key script; it is to be run on to a tick.
     #[tactic(auto, unfolding(crate::specs::Saved::read_state))]
     fn read(
         alloc: Global,
-        cart: &Cart,
+        file: &[u8],
         keys: Keys,
         digest: &[u8; 32],
         bytes: &[u8],
@@ -135,16 +135,16 @@ impl Taken {
     ) -> Result<Taken, Unpacked>
         requires few { length bytes.now < 2 ^ 32 }
         requires early { until.0 ≤ 2 ^ 56 }
-        ensures state { GivesState (λ taken. console_of taken.head (with_file cart.now taken.machine)) result
-            (read_state digest.now until.0 cart.now keys bytes.now) }
-        ensures goes { IfOk result (λ taken. GoesBehind until.0 taken.head (with_file cart.now taken.machine)) }
+        ensures state { GivesState (λ taken. console_of taken.head (with_file file.now taken.machine)) result
+            (read_state digest.now until.0 file.now keys bytes.now) }
+        ensures goes { IfOk result (λ taken. GoesBehind until.0 taken.head (with_file file.now taken.machine)) }
     {
         known!(are_bytes(bytes));
         known!(saved_laws());
         let mut from = Unpacker::new(bytes);
         let head = Head::unpack(&mut from, digest, until.0)?;
         let steps = [head.nine, head.seven, head.events];
-        let machine = Machine::unpack(alloc, cart, keys, steps, &mut from, Tick(head.at))?;
+        let machine = Machine::unpack(alloc, file, keys, steps, &mut from, Tick(head.at))?;
         take_end(&mut from)?;
         Ok(Taken { machine, head })
     }

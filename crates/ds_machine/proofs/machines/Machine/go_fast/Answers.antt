@@ -1,5 +1,5 @@
-use Rattle.ds_machine.proofs.Words.{refl, sym, ◌∙◌, ap, subst, other_proc, RunsWithSome, IsNextEvent, MachineState, BelongsToTurn, TakesSteps}
-use Rattle.ds_machine.proofs.Words.{no_steps, HasLimit, IsTurnEnd, due_or_never, NextEvent}
+use Rattle.ds_machine.proofs.Words.{refl, sym, ◌∙◌, ap, subst, other_proc, IsNextEvent, MachineState, BelongsToTurn, TakesSteps, no_steps, HasLimit}
+use Rattle.ds_machine.proofs.Words.{IsTurnEnd, due_or_never, NextEvent, IsRunning, last_limit}
 use Rattle.std.specs.Prelude.{◌<◌}
 use Rattle.ds_machine.proofs.EndTicks.{other_never}
 use Rattle.ds_machine.proofs.FastTurns.{goes_first, goes_on, goes_same, untaken}
@@ -22,7 +22,7 @@ steps-init c = (
     down = sym c.line.ensures ∙ c.if-line.false;
     events = subst (λ (m : MachineState). 0 < c.args.end → IsTurnEnd c.args.until.0 m c.args.end) (sym c.self.view_is) c.requires.end;
     least = subst (λ (m : MachineState). HasLimit c.args.until.0 m c.args.proc c.args.limit) (sym c.self.view_is) c.requires.limit;
-    running = subst RunsWithSome (sym c.self.view_is) c.requires.running;
+    running = subst (IsRunning last_limit) (sym c.self.view_is) c.requires.running;
   }),
   refl,
 )

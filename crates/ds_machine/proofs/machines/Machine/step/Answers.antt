@@ -6,7 +6,12 @@ use Rattle.ds_machine.proofs.machines.Machine.step.Goals as goal
 
 pub step_actor-done-requires-clause-running : goal.step_actor-done-requires-clause-running
 step_actor-done-requires-clause-running c =
-    let file = c.args.cart.now in (file, subst (λ (s : MachineState). IsRunning last_limit (with_file file s)) (sym c.self.view_is) c.requires.running)
+    subst (λ (f : List ℕ). IsRunning last_limit (with_file f c.self.inside.parts)) (sym c.bytes.ensures.bytes)
+    (subst (λ (s : MachineState). IsRunning last_limit (with_file c.args.cart.now s)) (sym c.self.view_is) c.requires.running)
+
+pub step_actor-done-requires-clause-may : goal.step_actor-done-requires-clause-may
+step_actor-done-requires-clause-may c =
+    may_step_put c.bytes.result.now c.self.inside.parts c.args.rank (subst (λ (s : MachineState). MayStep s c.args.rank) (sym c.self.view_is) c.requires.may)
 
 pub invariant_of-self : goal.invariant_of-self
 invariant_of-self c =

@@ -1,12 +1,11 @@
-use Rattle.ds_machine.proofs.Words.{ℕ, sym, subst, IsRunning, last_limit, CatchesUpFor, rank_of, MachineState, with_file, done_of, MayAct}
-use Rattle.ds_machine.proofs.Files.{catches_for, steps_put}
-use Rattle.ds_machine.proofs.OwnTurns.{goes_after, may_go}
+use Rattle.ds_machine.proofs.Words.{ℕ, sym, subst, IsRunning, last_limit, CatchesUpFor, rank_of, MachineState, done_of, MayAct}
+use Rattle.ds_machine.proofs.OwnTurns.{may_go}
+use Rattle.ds_machine.proofs.Running.{runs_after}
 use Rattle.ds_machine.proofs.Statuses.{statuses_done}
 use Rattle.ds_machine.proofs.machines.Machine.step_of_turn.Goals as goal
 
 pub catch_up_before-caught-requires-clause-running : goal.catch_up_before-caught-requires-clause-running
-catch_up_before-caught-requires-clause-running c =
-    let file = c.args.cart.now in (file, subst (λ (s : MachineState). IsRunning last_limit (with_file file s)) (sym c.self.view_is) c.requires.running)
+catch_up_before-caught-requires-clause-running c = subst (IsRunning last_limit) (sym c.self.view_is) c.requires.running
 
 pub catch_up_before-caught-requires-clause-may : goal.catch_up_before-caught-requires-clause-may
 catch_up_before-caught-requires-clause-may c =
@@ -17,8 +16,7 @@ pub step_own-requires-clause-may : goal.step_own-requires-clause-may
 step_own-requires-clause-may c =
     let old = c.self.inside.parts in
     let caught = c.catch_up_before-caught.new.self in
-    let file = c.args.cart.now in
-    (may_go file old caught c.args.proc c.args.tick (subst (λ (s : MachineState). IsRunning last_limit (with_file file s)) (sym c.self.view_is) c.requires.running)
+    (may_go old caught c.args.proc c.args.tick (subst (IsRunning last_limit) (sym c.self.view_is) c.requires.running)
     c.requires.early (subst (λ (s : MachineState). MayAct s c.args.tick (rank_of c.args.proc)) (sym c.self.view_is) c.requires.may) c.self.invariant.1
     (subst (λ (r : ℕ). CatchesUpFor c.args.tick.0 r old caught) c.rank_of-rank.ensures c.catch_up_before-caught.ensures.caught)).may
 
@@ -26,19 +24,15 @@ pub step_own-requires-clause-running : goal.step_own-requires-clause-running
 step_own-requires-clause-running c =
     let old = c.self.inside.parts in
     let caught = c.catch_up_before-caught.new.self in
-    let file = c.args.cart.now in (
-      file,
-      (may_go file old caught c.args.proc c.args.tick (subst (λ (s : MachineState). IsRunning last_limit (with_file file s)) (sym c.self.view_is) c.requires.running)
-          c.requires.early (subst (λ (s : MachineState). MayAct s c.args.tick (rank_of c.args.proc)) (sym c.self.view_is) c.requires.may) c.self.invariant.1
-          (subst (λ (r : ℕ). CatchesUpFor c.args.tick.0 r old caught) c.rank_of-rank.ensures c.catch_up_before-caught.ensures.caught)).running,
-    )
+    (may_go old caught c.args.proc c.args.tick (subst (IsRunning last_limit) (sym c.self.view_is) c.requires.running)
+    c.requires.early (subst (λ (s : MachineState). MayAct s c.args.tick (rank_of c.args.proc)) (sym c.self.view_is) c.requires.may) c.self.invariant.1
+    (subst (λ (r : ℕ). CatchesUpFor c.args.tick.0 r old caught) c.rank_of-rank.ensures c.catch_up_before-caught.ensures.caught)).running
 
 pub invariant_of-self : goal.invariant_of-self
 invariant_of-self c =
     let old = c.self.inside.parts in
     let caught = c.catch_up_before-caught.new.self in
-    let file = c.args.cart.now in
-    let go = may_go file old caught c.args.proc c.args.tick (subst (λ (s : MachineState). IsRunning last_limit (with_file file s)) (sym c.self.view_is) c.requires.running)
+    let go = may_go old caught c.args.proc c.args.tick (subst (IsRunning last_limit) (sym c.self.view_is) c.requires.running)
     c.requires.early (subst (λ (s : MachineState). MayAct s c.args.tick (rank_of c.args.proc)) (sym c.self.view_is) c.requires.may) c.self.invariant.1
     (subst (λ (r : ℕ). CatchesUpFor c.args.tick.0 r old caught) c.rank_of-rank.ensures c.catch_up_before-caught.ensures.caught) in
     (c.next_event-next_event.ensures, statuses_done caught c.step_own.new.self (rank_of c.args.proc) (done_of c.step_own.new.stop) go.statuses c.step_own.ensures)
@@ -47,20 +41,14 @@ pub returns-clause-step : goal.returns-clause-step
 returns-clause-step c =
     let old = c.self.inside.parts in
     let caught = c.catch_up_before-caught.new.self in
-    let file = c.args.cart.now in
-    let catches = subst (λ (r : ℕ). CatchesUpFor c.args.tick.0 r old caught) c.rank_of-rank.ensures c.catch_up_before-caught.ensures.caught in (
-      with_file file caught,
-      subst (λ (s : MachineState). CatchesUpFor c.args.tick.0 (rank_of c.args.proc) (with_file file s) (with_file file caught)) c.self.view_is
-          (catches_for file c.args.tick.0 (rank_of c.args.proc) old caught catches),
-      steps_put file c.args.proc caught c.step_own.new.self (done_of c.step_own.new.stop) c.step_own.ensures,
-    )
+    let catches = subst (λ (r : ℕ). CatchesUpFor c.args.tick.0 r old caught) c.rank_of-rank.ensures c.catch_up_before-caught.ensures.caught in
+    (caught, subst (λ (s : MachineState). CatchesUpFor c.args.tick.0 (rank_of c.args.proc) s caught) c.self.view_is catches, c.step_own.ensures)
 
 pub returns-clause-running : goal.returns-clause-running
 returns-clause-running c =
     let old = c.self.inside.parts in
     let caught = c.catch_up_before-caught.new.self in
-    let file = c.args.cart.now in
-    goes_after file caught c.step_own.new.self c.args.proc (done_of c.step_own.new.stop)
-    (may_go file old caught c.args.proc c.args.tick (subst (λ (s : MachineState). IsRunning last_limit (with_file file s)) (sym c.self.view_is) c.requires.running)
+    let go = may_go old caught c.args.proc c.args.tick (subst (IsRunning last_limit) (sym c.self.view_is) c.requires.running)
     c.requires.early (subst (λ (s : MachineState). MayAct s c.args.tick (rank_of c.args.proc)) (sym c.self.view_is) c.requires.may) c.self.invariant.1
-    (subst (λ (r : ℕ). CatchesUpFor c.args.tick.0 r old caught) c.rank_of-rank.ensures c.catch_up_before-caught.ensures.caught)) c.step_own.ensures
+    (subst (λ (r : ℕ). CatchesUpFor c.args.tick.0 r old caught) c.rank_of-rank.ensures c.catch_up_before-caught.ensures.caught) in
+    runs_after caught c.step_own.new.self (rank_of c.args.proc) (done_of c.step_own.new.stop) go.running go.may c.step_own.ensures

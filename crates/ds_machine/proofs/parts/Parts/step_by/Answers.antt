@@ -1,7 +1,6 @@
 use Rattle.ds_machine.proofs.Words.{ℕ, ◌<◌, ◌≤◌, ◌^◌, inl, inr, refl, sym, ◌∙◌, ap, arith, Cost, ProcessorState, tick_of}
 use Rattle.arm_core.specs.declared.outcomes.Stepped as arm
 use Rattle.ds_machine.proofs.FastTurns.{below_turn, is_due, least_now, over_at_end, over_past, went_fast}
-use Rattle.ds_machine.proofs.Files.{some_sound}
 use Rattle.ds_machine.proofs.GoingSteps.{ahead_data, ahead_if, ahead_may, line_is}
 use Rattle.ds_machine.proofs.GuardedSteps.{free_for}
 use Rattle.ds_machine.proofs.ProcessorSteps.{reached_early, reached_few}
@@ -122,4 +121,4 @@ returns g c =
 
 pub take_fast-fast-requires-clause-room : goal.take_fast-fast-requires-clause-room
 take_fast-fast-requires-clause-room g c =
-    free_for c.args.proc c.args.self.now (some_sound c.args.self.now c.requires.goes.running).parts c.requires.goes.least.free
+    free_for c.args.proc c.args.self.now c.requires.goes.running.sound.parts c.requires.goes.least.free

@@ -7,6 +7,6 @@ returns c =
     let nine = slice_index c.args.steps 0 in
     let seven = slice_index c.args.steps 1 in
     let events = slice_index c.args.steps 2 in
-    let parts = machine_reads c.bytes.result.now c.args.keys nine seven events c.args.at.0 c.args.from.now in
+    let parts = machine_reads c.args.file.now c.args.keys nine seven events c.args.at.0 c.args.from.now in
     let read = c.in_ok-taken.ensures c.args.keys nine seven events in
-    rw (← c.bytes.ensures.bytes) (parts ∙ (read ∙ ap (λ (s : MachineState). Ok (s, c.take.new.from)) (sym (c.in_ok-parts.ensures c.bytes.result.now))))
+    parts ∙ (read ∙ ap (λ (s : MachineState). Ok (s, c.take.new.from)) (sym (c.in_ok-parts.ensures c.args.file.now)))

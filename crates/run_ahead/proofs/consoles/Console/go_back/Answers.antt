@@ -7,7 +7,8 @@ invariant_of-self c =
     let goes = c.in_ok-taken.ensures.goes in
     let below = goes.0 in
     let early = c.requires.early in
-    let is : with_file c.cart.result.now taken.machine ≡ c.put.new.self = ap (λ (file : List ℕ). with_file file taken.machine) c.cart.ensures ∙ sym c.put.ensures in
+    let is : with_file c.file.result.now taken.machine ≡ c.take_over.new.self =
+    ap (λ (file : List ℕ). with_file file taken.machine) c.file.ensures ∙ sym c.take_over.ensures in
     let running = subst (λ (m : MachineState). IsRunning taken.head.at m) is goes.1 in
     let turns = subst (λ (m : MachineState). taken.head.turns ≤ counts_of m) is goes.2 in
-    (counts_add_up taken.head.at c.put.new.self running, omega (arith, below, early), refl, λ none. running, turns)
+    (counts_add_up taken.head.at c.take_over.new.self running, omega (arith, below, early), refl, λ none. running, turns)

@@ -7,6 +7,6 @@ invariant_of-result c =
     let goes = c.in_ok-taken.ensures.goes in
     let below = goes.0 in
     let early = c.requires.early in
-    let running = subst (λ (m : MachineState). IsRunning taken.head.at m) (sym c.of.ensures) goes.1 in
-    let turns = subst (λ (m : MachineState). taken.head.turns ≤ counts_of m) (sym c.of.ensures) goes.2 in
-    (counts_add_up taken.head.at c.of.result running, omega (arith, below, early), refl, λ none. running, turns)
+    let running = subst (λ (m : MachineState). IsRunning taken.head.at m) (sym c.insert.ensures) goes.1 in
+    let turns = subst (λ (m : MachineState). taken.head.turns ≤ counts_of m) (sym c.insert.ensures) goes.2 in
+    (counts_add_up taken.head.at c.insert.new.machine running, omega (arith, below, early), refl, λ none. running, turns)

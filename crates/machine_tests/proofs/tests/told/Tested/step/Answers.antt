@@ -1,11 +1,11 @@
 use Rattle.std.proofs.Common.{inl, arith}
 use Rattle.machine_tests.proofs.tests.told.Tested.step.Goals as goal
 
-pub step-requires-clause-running : goal.step-requires-clause-running
-step-requires-clause-running c = c.self.invariant c.if-self.false
+pub step_inserted-requires-clause-running : goal.step_inserted-requires-clause-running
+step_inserted-requires-clause-running c = c.self.invariant c.if-self.false
 
-pub step-requires-clause-may : goal.step-requires-clause-may
-step-requires-clause-may c =
+pub step_inserted-requires-clause-may : goal.step_inserted-requires-clause-may
+step_inserted-requires-clause-may c =
     let low = c.if-due-gt1048576.false in
     record { tick = c.due-due.result.tick; due = c.due-due.ensures.there; early = omega (arith, low); may = inl c.due-due.ensures }
 

@@ -23,9 +23,13 @@ pub returns-in_err-take_end-clause-state : goal.returns-in_err-take_end-clause-s
 returns-in_err-take_end-clause-state c =
     let start = ap (λ (l : Left). l.place) c.new-from.ensures in
     let left = c.in_err-take_end.ensures.left in
-    let told = left_over c.args.digest.now c.args.until.0 c.args.cart.now c.args.keys c.new-from.result c.unpack.new.from c.unpack-2.new.from c.in_ok-head.head (with_file c.args.cart.now c.in_ok-machine.machine) start
-    c.in_ok-head.ensures.reads c.in_ok-machine.ensures.reads left.1 in
-    let read = subst (λ (l : Left). read_state c.args.digest.now c.args.until.0 c.args.cart.now c.args.keys l.bytes ≡ Err c.unpack-2.new.from.place) c.new-from.ensures told in
-    let now = read_state c.args.digest.now c.args.until.0 c.args.cart.now c.args.keys c.args.bytes.now in
+    let read_machine = with_file c.args.file.now c.in_ok-machine.machine in
+    let told = left_over c.args.digest.now c.args.until.0 c.args.file.now c.args.keys c.new-from.result c.unpack.new.from c.unpack-2.new.from
+    c.in_ok-head.head read_machine start c.in_ok-head.ensures.reads c.in_ok-machine.ensures.reads left.1 in
+    let read =
+    subst (λ (l : Left). read_state c.args.digest.now c.args.until.0 c.args.file.now c.args.keys l.bytes ≡ Err c.unpack-2.new.from.place)
+    c.new-from.ensures told in
+    let now = read_state c.args.digest.now c.args.until.0 c.args.file.now c.args.keys c.args.bytes.now in
     let fails = subst (λ (e : Unpacked). FailsState e now) (sym left.0) read in
-    hands_on (λ (taken : Taken). console_of taken.head (with_file c.args.cart.now taken.machine)) c.from_residual-in_err-take_end.result c.in_err-take_end.field-0.0 now c.from_residual-in_err-take_end.ensures.1 fails
+    hands_on (λ (taken : Taken). console_of taken.head (with_file c.args.file.now taken.machine)) c.from_residual-in_err-take_end.result
+    c.in_err-take_end.field-0.0 now c.from_residual-in_err-take_end.ensures.1 fails

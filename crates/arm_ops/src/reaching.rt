@@ -76,7 +76,7 @@ fn run_still<B: Bus>(arch: Arch, s: &mut Registers, bus: &mut B, operation: &Ope
     if !takes_effect(operation.cond, s) {
         return skip(arch, s);
     }
-    compute::<B, Anywhere>(arch, s, bus, &operation.op)
+    compute::<B, Anywhere, Anywhere>(arch, s, bus, &operation.op)
 }
 
 /// Runs an operation over a bus, wherever its access is, which was asked for before. The result is the cost, or the stop of a write that the bus

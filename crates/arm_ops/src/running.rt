@@ -67,9 +67,6 @@ fn plain(arch: Arch, instr: &Instr, s: &mut Registers) -> u32
     act_processing(arch, 0, s, instr)
 }
 
-/// Who makes accesses that must be near. It has a copy of them of its own, which stands in line in its loop over steps.
-pub(crate) enum NearAlone {}
-
 /// Who runs operations wherever each access is, and tries none at once.
 pub(crate) enum Anywhere {}
 
@@ -93,11 +90,12 @@ impl<B: Bus> Near<B> for Anywhere {
 }
 
 /// An operation that makes no access, or one that is tried at once and finds its memory there; the result is its cost, and 0 where it is neither or
-/// isn't run here. What makes no access, which is most, and what is tried stand in one match, so that one jump finds it.
+/// isn't run here. What makes no access, which is most, and what is tried stand in one match, so that one jump finds it. Who calls has a copy of
+/// its own, as of `transfer_at`.
 #[inline(always)]
 #[rattlefmt::skip]
 #[tactic(auto, using(crate::proofs::Laws::costs, crate::proofs::Laws::not_none))]
-pub(crate) fn compute<B: Bus, N: Near<B>>(arch: Arch, s: &mut Registers, bus: &mut B, op: &Op) -> u32
+pub(crate) fn compute<B: Bus, N: Near<B>, Caller>(arch: Arch, s: &mut Registers, bus: &mut B, op: &Op) -> u32
     requires { HasOp op.now }
     ensures all { ops.access_of s.old op.now ≡ None → is_other op.now ≡ false → 0 < result }
     ensures none { result ≡ 0 → (s.new ≡ s.old) × (B.state bus.new ≡ B.state bus.old) }
@@ -192,7 +190,12 @@ pub(crate) fn paid(stepped: Stepped) -> u32
 
 /// Makes an access, where it is of RAM, or a load that is near too; the result is its cost, and 0 where it is neither.
 #[inline(always)]
-fn make_near<B: Bus, N: Near<B>>(arch: Arch, s: &mut Registers, bus: &mut B, it: DataAccess) -> u32
+fn make_near<B: Bus, N: Near<B>, Caller>(
+    arch: Arch,
+    s: &mut Registers,
+    bus: &mut B,
+    it: DataAccess,
+) -> u32
     requires fields { HasAccess it }
     requires ram { RefusesNoneInRam B.memory }
     ensures none { result ≡ 0 → (s.new ≡ s.old) × (B.state bus.new ≡ B.state bus.old) }
@@ -208,9 +211,9 @@ fn make_near<B: Bus, N: Near<B>>(arch: Arch, s: &mut Registers, bus: &mut B, it:
     }
     match it.op {
         TransferOp::WordOrByte { load, byte } => {
-            paid(transfer_at::<B, NearAlone>(arch, s, bus, load, byte, it.rn, it.rd, it.to))
+            paid(transfer_at::<B, Caller>(arch, s, bus, load, byte, it.rn, it.rd, it.to))
         }
-        TransferOp::HalfOrSigned { op } => paid(half_transfer_at::<B, NearAlone>(
+        TransferOp::HalfOrSigned { op } => paid(half_transfer_at::<B, Caller>(
             arch, s, bus, op, it.rn, it.rd, it.to,
         )),
     }
@@ -220,7 +223,7 @@ fn make_near<B: Bus, N: Near<B>>(arch: Arch, s: &mut Registers, bus: &mut B, it:
 /// here.
 #[inline(always)]
 #[tactic(auto, using(crate::proofs::Laws::means_access))]
-fn run_op<B: Bus, N: Near<B>>(arch: Arch, s: &mut Registers, bus: &mut B, op: &Op) -> u32
+fn run_op<B: Bus, N: Near<B>, Caller>(arch: Arch, s: &mut Registers, bus: &mut B, op: &Op) -> u32
     requires fields { HasOp op.now }
     requires ram { RefusesNoneInRam B.memory }
     ensures none { result ≡ 0 → (s.new ≡ s.old) × (B.state bus.new ≡ B.state bus.old) }
@@ -231,12 +234,12 @@ fn run_op<B: Bus, N: Near<B>>(arch: Arch, s: &mut Registers, bus: &mut B, op: &O
     ensures near { 0 < result → AreNear N.near (op_meaning arch s.old op.now).accesses }
     ensures same { B.identity bus.new ≡ B.identity bus.old }
 {
-    let clocks = compute::<B, N>(arch, s, bus, op);
+    let clocks = compute::<B, N, Caller>(arch, s, bus, op);
     if clocks != 0 {
         return clocks;
     }
     match access_of(s, op) {
-        Some(it) => make_near::<B, N>(arch, s, bus, it),
+        Some(it) => make_near::<B, N, Caller>(arch, s, bus, it),
         None => 0,
     }
 }
@@ -274,13 +277,13 @@ pub trait Runner {
         ensures same { B.identity bus.new ≡ B.identity bus.old };
 }
 
-/// Operations that make one access at most are.
-pub enum Singles {}
+/// Operations that make one access at most are. Each loop over steps has a copy of its own, by a number, which stands in line in it.
+pub enum Singles<const COPY: u32> {}
 
 /// LDM and STM are.
-pub enum Lists {}
+pub enum Lists<const COPY: u32> {}
 
-impl Runner for Singles {
+impl<const COPY: u32> Runner for Singles<COPY> {
     ghost lists = { false };
 
     #[inline(always)]
@@ -299,11 +302,11 @@ impl Runner for Singles {
         if !takes_effect(operation.cond, s) {
             return skip(arch, s);
         }
-        run_op::<B, N>(arch, s, bus, &operation.op)
+        run_op::<B, N, Singles<COPY>>(arch, s, bus, &operation.op)
     }
 }
 
-impl Runner for Lists {
+impl<const COPY: u32> Runner for Lists<COPY> {
     ghost lists = { true };
 
     #[inline(always)]

@@ -153,19 +153,12 @@ pub cost_fast : (s : MachineState) (rank : ℕ) (proc : Proc) (tick : Tick) (clo
     → awake (Some tick) (machine_concluded rank proc s (Cost clocks)) ≡ stepped_of s answers.Made (with_processor proc s (went_on clocks false (processor_of s proc)))
 cost_fast s rank proc tick clocks sound settled asleep blocked = cost_ends s rank proc tick clocks sound settled asleep blocked
 
--- what is kept stays at it
-pub cost_keeps : (next_event : NextEvent) (s next : MachineState) (proc : Proc) (p : ProcessorState) → IsNextEvent next_event s → next ≡ with_processor proc s p → IsNextEvent next_event next
-cost_keeps next_event s next proc p is e = subst (IsNextEvent next_event) (sym e) (kept_stays next_event s (with_processor proc s p) is (put_beside proc s p))
-
--- and at the accesses before it, which leave the units
+-- the accesses before it leave the units
 pub reach_beside : (s next : MachineState) (proc : Proc) (now : Tick) → next ≡ (outcome_of proc now s).machine → next.io ≡ s.io → Beside s next
 reach_beside s next proc now e io = record { io = io; keys = ap (λ (m : MachineState). m.keys) e ∙ same_keys proc } where
   same_keys : (proc : Proc) → (outcome_of proc now s).machine.keys ≡ s.keys
   same_keys Nine = refl
   same_keys Seven = refl
-
-pub reach_keeps : (next_event : NextEvent) (s next : MachineState) (proc : Proc) (now : Tick) → IsNextEvent next_event s → next ≡ (outcome_of proc now s).machine → next.io ≡ s.io → IsNextEvent next_event next
-reach_keeps next_event s next proc now is e io = kept_stays next_event s next is (reach_beside s next proc now e io)
 
 -- who is asleep before them is so after them
 pub asleep_by : (s next : MachineState) → next.io ≡ s.io → AreAsleep s → AreAsleep next

@@ -1,13 +1,13 @@
 use Rattle.ds_machine.proofs.Words.{ℕ, ◌≡◌, ◌<◌, ◌≤◌, ◌^◌, ◌⊎◌, inl, inr, Bool, false, Option, Some, refl, sym, ◌∙◌, ap, subst, arith, same_Some}
-use Rattle.ds_machine.proofs.Words.{Proc, Tick, Cost, IsIo, is_settled, IsLeast, acting_dues, IsNextEvent, TookStep, IsAhead, rank_of, due_unless}
+use Rattle.ds_machine.proofs.Words.{Proc, Tick, Cost, IsIo, IoState, io_of, is_settled, IsLeast, acting_dues, line_is_up, TookStep, IsAhead, rank_of, due_unless}
 use Rattle.ds_machine.proofs.Words.{processor_due, MachineState, outcome_of, processor_of, tick_of, went_on, with_processor, DataStaysNear}
-use Rattle.ds_machine.proofs.Words.{BelongsToTurn, TakesSteps, more_steps, no_steps, NextEvent}
-use Rattle.ds_machine.specs.NextEvents.{GoesFast, WentFast}
-use Rattle.ds_machine.specs.declared.going.Gone.{Gone}
-use Rattle.ds_machine.specs.declared.going.Gone.TheVariants.{List, Unknown}
+use Rattle.ds_machine.proofs.Words.{BelongsToTurn, TakesSteps, is_blocked, more_steps, no_steps, own_remaining}
+use Rattle.ds_machine.specs.NextEvents.{GoesFast, WentOn}
+use Rattle.ds_machine.specs.TurnLaws.{ticks_left}
+use Rattle.std.specs.Prelude.{◌-◌}
 use Rattle.ds_machine.proofs.DueTicks.{own_tick}
 use Rattle.ds_machine.proofs.EndTicks.{LeavesOthers, end_stays, limit_stays}
-use Rattle.ds_machine.proofs.FastSteps.{asleep_by, cost_keeps, free_stays, made_fast, reach_beside, reach_keeps}
+use Rattle.ds_machine.proofs.FastSteps.{asleep_by, free_stays, made_fast, reach_beside}
 use Rattle.ds_machine.proofs.GoingSteps.{IsDueAt, least_there, needs_none, other_stays, took_when}
 use Rattle.ds_machine.proofs.NearUnobserved.{near_unobserved}
 use Rattle.ds_machine.proofs.Wakes.{put_beside}
@@ -17,7 +17,7 @@ use Rattle.ds_machine.proofs.Wakes.{put_beside}
 took_leaves : (until : ℕ) (s next : MachineState) (proc : Proc) → TookStep until proc s next → LeavesOthers proc s next
 took_leaves until s next proc took = record { beside = record { io = took.io; keys = took.keys }; other = took.other }
 
-module _ (next_event : NextEvent) (s : MachineState) (proc : Proc) (until end limit n : ℕ) (goes : GoesFast until proc next_event end limit s)
+module _ (s : MachineState) (proc : Proc) (until end limit n : ℕ) (goes : GoesFast until proc end limit s)
     (due : n ≡ (processor_of s proc).due) (early : until ≤ 2 ^ 56) where
   pub is_due : IsDueAt s proc n
   is_due =
@@ -54,12 +54,11 @@ module _ (next_event : NextEvent) (s : MachineState) (proc : Proc) (until end li
   pub over_at_end : until ≤ n → BelongsToTurn until s proc → ⊥
   over_at_end le b = let lt = below_then b in absurd (omega (arith, le, lt))
 
-  goes_after : (next : MachineState) → TookStep until proc s next → IsNextEvent next_event next → GoesFast until proc next_event end limit next
-  goes_after next took kept =
+  goes_after : (next : MachineState) → TookStep until proc s next → GoesFast until proc end limit next
+  goes_after next took =
       let leaves = took_leaves until s next proc took in
       record {
-        kept = kept;
-        down = goes.down;
+        down = ap (λ (u : IoState). line_is_up (io_of u proc).irq) took.io ∙ goes.down;
         events = λ some. end_stays until end s next leaves.beside (goes.events some);
         least = limit_stays until limit s next proc leaves goes.least;
         running = took.running;
@@ -69,12 +68,11 @@ module _ (next_event : NextEvent) (s : MachineState) (proc : Proc) (until end li
   pub went_fast : (m next : MachineState) (clocks : ℕ) → n < until → IsLeast (acting_dues s) (record { 0 = n }) (rank_of proc) ⊎ IsAhead s proc
       → m ≡ (outcome_of proc (record { 0 = n }) s).machine → (outcome_of proc (record { 0 = n }) s).stepped ≡ Cost clocks → m.io ≡ s.io
       → next ≡ with_processor proc m (went_on clocks false (processor_of m proc)) → DataStaysNear (record { 0 = n }) s proc
-      → TookStep until proc s next × GoesFast until proc next_event end limit next
+      → TookStep until proc s next × GoesFast until proc end limit next
   went_fast m next clocks lt goes_now machine stepped io e near =
       let tick : Tick = record { 0 = n } in
       let d = is_due in
       let sound = goes.running.sound in
-      let kept = reach_keeps next_event s m proc tick goes.kept machine io in
       let made = made_fast s m next (rank_of proc) proc tick clocks (subst IsIo (sym io) sound.parts.io) (ap is_settled io ∙ sound.settled) (asleep_by s m io sound.asleep)
       (free_stays proc s m io d.free) d.own machine (sym stepped) e in
       let put = put_beside proc m (went_on clocks false (processor_of m proc)) in
@@ -83,36 +81,58 @@ module _ (next_event : NextEvent) (s : MachineState) (proc : Proc) (until end li
       let script : next.keys ≡ s.keys = ap (λ (x : MachineState). x.keys) e ∙ put.keys ∙ reach.keys in
       let took = took_when s next proc n until goes.running d lt early goes_now (near_unobserved s proc tick d.own near) made units script
       (other_stays proc tick s m next (went_on clocks false (processor_of m proc)) machine e) in
-      (took, goes_after next took (cost_keeps next_event m next proc (went_on clocks false (processor_of m proc)) kept e))
+      (took, goes_after next took)
 
--- where none was taken, all is as it was
-pub untaken : (until : ℕ) (proc : Proc) (next_event : NextEvent) (end limit : ℕ) (old : MachineState) (gone : Gone) (new : MachineState)
-    → (gone ≡ Unknown) ⊎ (gone ≡ List) → WentFast until proc next_event end limit old gone new → new ≡ old
-untaken until proc next_event end limit old gone new (inl e) went = subst (λ (g : Gone). WentFast until proc next_event end limit old g new) e went
-untaken until proc next_event end limit old gone new (inr e) went = subst (λ (g : Gone). WentFast until proc next_event end limit old g new) e went
+-- a step that was taken made the processor due later
+pub later : (until : ℕ) (proc : Proc) (end limit : ℕ) (s next : MachineState) → GoesFast until proc end limit s
+    → TookStep until proc s next × GoesFast until proc end limit next → (processor_of s proc).due ≤ (processor_of next proc).due
+later until proc end limit s next goes went =
+    let left : (m : MachineState) → is_blocked m proc ≡ false → own_remaining until m proc ≡ until - (processor_of m proc).due =
+    λ m free. ap (λ (b : Bool). ticks_left until (due_unless b (processor_of m proc))) free in
+    let fewer = went.0.fewer in
+    let before = left s goes.least.free in
+    let after = left next went.1.least.free in
+    omega (arith, fewer, before, after)
+
+-- steps, and then more of the same turn
+pub steps_then : (until : ℕ) (proc : Proc) (a b c : MachineState) → TakesSteps until proc a b → TakesSteps until proc b c → TakesSteps until proc a c
+steps_then until proc a b c first (no_steps start) = first
+steps_then until proc a b c first (more_steps start before caught next earlier belongs catches h) =
+    more_steps a before caught next (steps_then until proc a start before first earlier) belongs catches h
 
 -- ---- a loop over them: the steps so far were of the turn, and the next goes by the same
 
-pub record Goes (until : ℕ) (proc : Proc) (next_event : NextEvent) (end limit : ℕ) (start now : MachineState) : Type 0 where
-  pub steps : TakesSteps until proc start now
-  pub goes : GoesFast until proc next_event end limit now
-  pub leaves : LeavesOthers proc start now
+pub went_none : (until : ℕ) (proc : Proc) (end limit : ℕ) (s : MachineState) → GoesFast until proc end limit s → WentOn until proc end limit s s
+went_none until proc end limit s goes = record { steps = no_steps s; goes = goes; io = refl; keys = refl; other = refl }
 
-pub goes_first : (until : ℕ) (proc : Proc) (next_event : NextEvent) (end limit : ℕ) (s : MachineState) → GoesFast until proc next_event end limit s
-    → Goes until proc next_event end limit s s
-goes_first until proc next_event end limit s goes = record { steps = no_steps s; goes = goes; leaves = record { beside = record { io = refl; keys = refl }; other = refl } }
-
-pub goes_on : (until : ℕ) (proc : Proc) (next_event : NextEvent) (end limit : ℕ) (start before now : MachineState) → Goes until proc next_event end limit start before
-    → TookStep until proc before now × GoesFast until proc next_event end limit now → Goes until proc next_event end limit start now
-goes_on until proc next_event end limit start before now g k =
+pub went_more : (until : ℕ) (proc : Proc) (end limit : ℕ) (start before now : MachineState) → WentOn until proc end limit start before
+    → TookStep until proc before now × GoesFast until proc end limit now → WentOn until proc end limit start now
+went_more until proc end limit start before now g k =
     let took = k.0 in
     record {
       steps = more_steps start before before now g.steps took.belongs (needs_none before proc took.unobserving) took.made;
       goes = k.1;
-      leaves = record { beside = record { io = took.io ∙ g.leaves.beside.io; keys = took.keys ∙ g.leaves.beside.keys }; other = took.other ∙ g.leaves.other };
+      io = took.io ∙ g.io;
+      keys = took.keys ∙ g.keys;
+      other = took.other ∙ g.other;
     }
 
 -- where it ends, the last try left all as it was
-pub goes_same : (until : ℕ) (proc : Proc) (next_event : NextEvent) (end limit : ℕ) (start before now : MachineState) → Goes until proc next_event end limit start before
-    → now ≡ before → Goes until proc next_event end limit start now
-goes_same until proc next_event end limit start before now g same = subst (Goes until proc next_event end limit start) (sym same) g
+pub went_same : (until : ℕ) (proc : Proc) (end limit : ℕ) (start before now : MachineState) → WentOn until proc end limit start before
+    → now ≡ before → WentOn until proc end limit start now
+went_same until proc end limit start before now g same = subst (WentOn until proc end limit start) (sym same) g
+
+-- some, and then more
+pub went_then : (until : ℕ) (proc : Proc) (end limit : ℕ) (start before now : MachineState) → WentOn until proc end limit start before
+    → WentOn until proc end limit before now → WentOn until proc end limit start now
+went_then until proc end limit start before now g k = record {
+  steps = steps_then until proc start before now g.steps k.steps;
+  goes = k.goes;
+  io = k.io ∙ g.io;
+  keys = k.keys ∙ g.keys;
+  other = k.other ∙ g.other;
+}
+
+-- so it leaves the others as they were
+pub leaves_others : (until : ℕ) (proc : Proc) (end limit : ℕ) (s next : MachineState) → WentOn until proc end limit s next → LeavesOthers proc s next
+leaves_others until proc end limit s next w = record { beside = record { io = w.io; keys = w.keys }; other = w.other }

@@ -86,9 +86,6 @@ pub line_is : (next_event : NextEvent) (s : MachineState) → IsNextEvent next_e
 line_is next_event s is Nine = is.nine_line
 line_is next_event s is Seven = is.seven_line
 
-pub line_down : (next_event : NextEvent) (s : MachineState) (proc : Proc) (line : Bool) → IsNextEvent next_event s → line ≡ line_kept next_event proc → line ≡ false → line_of s proc ≡ false
-line_down next_event s proc line is e h = sym (line_is next_event s is proc) ∙ sym e ∙ h
-
 own_stays : (s : MachineState) (proc : Proc) → FetchStaysPrivate s proc → DataStaysPrivate (tick_of (processor_of s proc)) s proc → ProcessorStaysPrivate s proc
 own_stays s Nine fetch d = record { fetch = fetch; kind = d.kind; accesses = d.accesses }
 own_stays s Seven fetch d = record { fetch = fetch; kind = d.kind; accesses = d.accesses }

@@ -15,7 +15,7 @@ use Rattle.ds_machine.specs.Reference.{keys_due, reference_step}
 use Rattle.ds_machine.specs.Sound.{AreAsleep}
 use Rattle.ds_machine.specs.States.{MachineState}
 use Rattle.ds_machine.specs.Steps.{is_blocked, line_of, processor_of}
-use Rattle.ds_machine.specs.TurnSteps.{BelongsToTurn}
+use Rattle.ds_machine.specs.TurnSteps.{BelongsToTurn, TakesSteps}
 use Rattle.ds_machine.specs.TurnLaws.{HasLimit, IsTurnEnd, own_remaining}
 use Rattle.ds_machine.specs.declared.going.Gone.{Gone}
 use Rattle.ds_machine.specs.declared.going.Gone.TheVariants as gone
@@ -97,19 +97,26 @@ pub record TookStep (until : ℕ) (proc : Proc) (s next : MachineState) : Type 0
   pub keys : next.keys ≡ s.keys
   pub other : (processor_of next (other_proc proc)).due ≡ (processor_of s (other_proc proc)).due
 
--- what the fast steps of a processor go by: what is kept is so of the machine, which goes on; the processor's line is down; where it is known, this
--- is the first tick at which an event acts; and the first at which the processor isn't the least acting actor, or isn't due below a limit, any more
-pub record GoesFast (until : ℕ) (proc : Proc) (next_event : NextEvent) (end limit : ℕ) (s : MachineState) : Type 0 where
-  pub kept : IsNextEvent next_event s
-  pub down : line_kept next_event proc ≡ false
+-- what the fast steps of a processor go by: the machine goes on; the processor's line is down; where it is known, this is the first tick at which an
+-- event acts; and the first at which the processor isn't the least acting actor, or isn't due below a limit, any more
+pub record GoesFast (until : ℕ) (proc : Proc) (end limit : ℕ) (s : MachineState) : Type 0 where
+  pub down : line_of s proc ≡ false
   pub events : 0 < end → IsTurnEnd until s end
   pub least : HasLimit until s proc limit
   pub running : IsRunning last_limit s
 
 -- what trying one gives: it was taken, and the next goes by the same; or no step belongs to the turn any more; or it isn't a fast one. Where it
 -- wasn't taken the machine is as it was
-abbrev pub WentFast : ℕ → Proc → NextEvent → ℕ → ℕ → MachineState → Gone → MachineState → Type 0
-WentFast until proc next_event end limit old gone.Took new = TookStep until proc old new × GoesFast until proc next_event end limit new
-WentFast until proc next_event end limit old gone.Over new = (¬ BelongsToTurn until old proc) × (new ≡ old)
-WentFast until proc next_event end limit old gone.Unknown new = new ≡ old
-WentFast until proc next_event end limit old gone.List new = new ≡ old
+abbrev pub WentFast : ℕ → Proc → ℕ → ℕ → MachineState → Gone → MachineState → Type 0
+WentFast until proc end limit old gone.Took new = TookStep until proc old new × GoesFast until proc end limit new
+WentFast until proc end limit old gone.Over new = (¬ BelongsToTurn until old proc) × (new ≡ old)
+WentFast until proc end limit old gone.Unknown new = new ≡ old
+WentFast until proc end limit old gone.List new = new ≡ old
+
+-- what many of them give: they were of the turn, the next goes by the same, and no unit changed
+pub record WentOn (until : ℕ) (proc : Proc) (end limit : ℕ) (s next : MachineState) : Type 0 where
+  pub steps : TakesSteps until proc s next
+  pub goes : GoesFast until proc end limit next
+  pub io : next.io ≡ s.io
+  pub keys : next.keys ≡ s.keys
+  pub other : (processor_of next (other_proc proc)).due ≡ (processor_of s (other_proc proc)).due

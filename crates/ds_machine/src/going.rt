@@ -1,13 +1,14 @@
 //! The steps of the fast path.
 
 ghost use Rattle.std.specs.Prelude.{◌≡◌, ◌↔◌, ◌<◌, ◌≤◌, ◌^◌, ◌⊎◌, false, true};
-ghost use Rattle.ds_machine.specs.NextEvents.{GoesFast, WentFast};
+ghost use Rattle.ds_base.specs.declared.processors.Proc.TheVariants.{Nine, Seven};
+ghost use Rattle.ds_machine.specs.NextEvents.{GoesFast, WentFast, WentOn};
 ghost use Rattle.ds_machine.specs.Private.{IsBelowFence};
-ghost use Rattle.ds_machine.specs.Steps.{line_of};
+ghost use Rattle.ds_machine.specs.Steps.{line_of, processor_of};
 ghost use Rattle.ds_machine.specs.TurnLaws.{IsTurnEnd};
+ghost use Rattle.ds_machine.specs.TurnSteps.{BelongsToTurn};
 ghost use Rattle.ds_machine.specs.Touching.{FetchStaysPrivate, MayBeAhead};
 
-use crate::next_events::NextEvent;
 use crate::parts::Parts;
 use crate::processors::ticks_of;
 use arm_ops::{Lists, Runner, Singles};
@@ -72,28 +73,41 @@ impl Parts {
     }
 
     /// One step of a processor's turn, where it is one of the fast path, which makes one access at most, or is LDM or STM, as says who runs it; by
-    /// the first tick at which an event acts, or 0, and the first at which the processor isn't the least acting one any more. Its line is down, so
-    /// it enters no interrupt. Where it is ahead of its turn it reaches private places alone. It costs, and changes no unit: so no processor wakes,
-    /// and what is kept stays. It observes nothing of geometry: it reaches RAM alone, or loads from a port that isn't observed.
+    /// the first tick at which an event acts, or 0, and the first at which the processor isn't the least acting one any more, which it is now. Its
+    /// line is down, so it enters no interrupt. It costs, and changes no unit: so no processor wakes. It observes nothing of geometry: it reaches RAM
+    /// alone, or loads from a port that isn't observed.
     #[inline(always)]
-    fn step_by<R: Runner>(
-        &mut self,
-        next_event: &NextEvent,
-        proc: Proc,
-        until: Tick,
-        end: u64,
-        limit: u64,
-    ) -> Gone
+    fn step_least<R: Runner>(&mut self, proc: Proc, until: Tick, end: u64, limit: u64) -> Gone
         requires early { until.0 ≤ 2 ^ 56 }
-        requires goes { GoesFast until.0 proc next_event.now end limit self.old }
-        ensures { WentFast until.0 proc next_event.now end limit self.old result self.new }
+        requires goes { GoesFast until.0 proc end limit self.old }
+        requires least { (processor_of self.old proc).due < limit }
+        ensures { WentFast until.0 proc end limit self.old result self.new }
     {
         let due = self.processor(proc).due;
-        let ahead = limit <= due;
-        if ahead && !self.may_go_on(proc, until, end, Tick(due)) {
+        let fast = self.take_fast::<R, 0>(proc, Tick(due), false);
+        if fast.clocks == 0 {
+            if fast.list {
+                return Gone::List;
+            }
+            return Gone::Unknown;
+        }
+        self.go_on(proc, ticks_of(proc, fast.clocks, fast.waits), false);
+        Gone::Took
+    }
+
+    /// The same where the processor isn't the least acting one any more: the step is ahead of its turn, and reaches private places alone.
+    #[inline(always)]
+    fn step_ahead<R: Runner>(&mut self, proc: Proc, until: Tick, end: u64, limit: u64) -> Gone
+        requires early { until.0 ≤ 2 ^ 56 }
+        requires goes { GoesFast until.0 proc end limit self.old }
+        requires past { limit ≤ (processor_of self.old proc).due }
+        ensures { WentFast until.0 proc end limit self.old result self.new }
+    {
+        let due = self.processor(proc).due;
+        if !self.may_go_on(proc, until, end, Tick(due)) {
             return Gone::Over;
         }
-        let fast = self.take_fast::<R>(proc, Tick(due), false, ahead);
+        let fast = self.take_fast::<R, 1>(proc, Tick(due), false);
         if fast.clocks == 0 {
             if fast.leaves {
                 return Gone::Over;
@@ -107,40 +121,108 @@ impl Parts {
         Gone::Took
     }
 
-    /// The same of LDM and STM. It stands out of line, so that the loop over steps has no second copy of what they need.
+    /// The same of LDM and STM, wherever it stands in its turn. It stands out of line, so that the loops over steps have no second copy of what they
+    /// need.
     #[inline(never)]
-    fn step_list(
-        &mut self,
-        next_event: &NextEvent,
-        proc: Proc,
-        until: Tick,
-        end: u64,
-        limit: u64,
-    ) -> Gone
+    fn step_list(&mut self, proc: Proc, until: Tick, end: u64, limit: u64) -> Gone
         requires early { until.0 ≤ 2 ^ 56 }
-        requires goes { GoesFast until.0 proc next_event.now end limit self.old }
-        ensures { WentFast until.0 proc next_event.now end limit self.old result self.new }
+        requires goes { GoesFast until.0 proc end limit self.old }
+        ensures { WentFast until.0 proc end limit self.old result self.new }
     {
-        self.step_by::<Lists>(next_event, proc, until, end, limit)
+        if self.processor(proc).due < limit {
+            return self.step_least::<Lists<0>>(proc, until, end, limit);
+        }
+        self.step_ahead::<Lists<1>>(proc, until, end, limit)
     }
 
-    /// One step of a processor's turn, where it is one of the fast path, whatever it is.
+    /// Takes steps of a processor's turn that are ahead of it, while they are of the fast path. The answer is whether its turn is over.
     #[inline(always)]
-    pub fn step_fast(
-        &mut self,
-        next_event: &NextEvent,
-        proc: Proc,
-        until: Tick,
-        end: u64,
-        limit: u64,
-    ) -> Gone
+    fn go_on_ahead(&mut self, proc: Proc, until: Tick, end: u64, limit: u64) -> bool
         requires early { until.0 ≤ 2 ^ 56 }
-        requires goes { GoesFast until.0 proc next_event.now end limit self.old }
-        ensures { WentFast until.0 proc next_event.now end limit self.old result self.new }
+        requires goes { GoesFast until.0 proc end limit self.old }
+        requires past { limit ≤ (processor_of self.old proc).due }
+        ensures went { WentOn until.0 proc end limit self.old self.new }
+        ensures over { result ≡ true → BelongsToTurn until.0 self.new proc → ⊥ }
     {
-        match self.step_by::<Singles>(next_event, proc, until, end, limit) {
-            Gone::List => self.step_list(next_event, proc, until, end, limit),
-            gone => gone,
+        'steps: loop {
+            match self.step_ahead::<Singles<1>>(proc, until, end, limit) {
+                Gone::Took => {}
+                Gone::Over => return true,
+                Gone::Unknown => return false,
+                Gone::List => match self.step_list(proc, until, end, limit) {
+                    Gone::Took => {}
+                    Gone::Over => return true,
+                    Gone::Unknown | Gone::List => return false,
+                },
+            }
+        }
+    }
+
+    /// The same of ARM9. It stands out of line, so that the loop over steps that are the least has all that is in line to itself.
+    #[inline(never)]
+    fn go_on_ahead_of_nine(&mut self, until: Tick, end: u64, limit: u64) -> bool
+        requires early { until.0 ≤ 2 ^ 56 }
+        requires goes { GoesFast until.0 Nine end limit self.old }
+        requires past { limit ≤ (processor_of self.old Nine).due }
+        ensures went { WentOn until.0 Nine end limit self.old self.new }
+        ensures over { result ≡ true → BelongsToTurn until.0 self.new Nine → ⊥ }
+    {
+        self.go_on_ahead(Proc::Nine, until, end, limit)
+    }
+
+    /// The same of ARM7.
+    #[inline(never)]
+    fn go_on_ahead_of_seven(&mut self, until: Tick, end: u64, limit: u64) -> bool
+        requires early { until.0 ≤ 2 ^ 56 }
+        requires goes { GoesFast until.0 Seven end limit self.old }
+        requires past { limit ≤ (processor_of self.old Seven).due }
+        ensures went { WentOn until.0 Seven end limit self.old self.new }
+        ensures over { result ≡ true → BelongsToTurn until.0 self.new Seven → ⊥ }
+    {
+        self.go_on_ahead(Proc::Seven, until, end, limit)
+    }
+
+    /// The same of either. A turn whose next fetch isn't private is over at once.
+    #[inline(always)]
+    fn go_ahead(&mut self, proc: Proc, until: Tick, end: u64, limit: u64) -> bool
+        requires early { until.0 ≤ 2 ^ 56 }
+        requires goes { GoesFast until.0 proc end limit self.old }
+        requires past { limit ≤ (processor_of self.old proc).due }
+        ensures went { WentOn until.0 proc end limit self.old self.new }
+        ensures over { result ≡ true → BelongsToTurn until.0 self.new proc → ⊥ }
+    {
+        if !self.is_fetch_private(proc) {
+            return true;
+        }
+        match proc {
+            Proc::Nine => self.go_on_ahead_of_nine(until, end, limit),
+            Proc::Seven => self.go_on_ahead_of_seven(until, end, limit),
+        }
+    }
+
+    /// Takes steps of a processor's turn, while they are of the fast path: first those that are the least, then those that are ahead of their turn.
+    /// The answer is whether its turn is over.
+    #[inline(always)]
+    pub fn go_fast(&mut self, proc: Proc, until: Tick, end: u64, limit: u64) -> bool
+        requires early { until.0 ≤ 2 ^ 56 }
+        requires goes { GoesFast until.0 proc end limit self.old }
+        ensures went { WentOn until.0 proc end limit self.old self.new }
+        ensures over { result ≡ true → BelongsToTurn until.0 self.new proc → ⊥ }
+    {
+        'steps: loop {
+            if limit <= self.processor(proc).due {
+                return self.go_ahead(proc, until, end, limit);
+            }
+            match self.step_least::<Singles<0>>(proc, until, end, limit) {
+                Gone::Took => {}
+                Gone::Over => return true,
+                Gone::Unknown => return false,
+                Gone::List => match self.step_list(proc, until, end, limit) {
+                    Gone::Took => {}
+                    Gone::Over => return true,
+                    Gone::Unknown | Gone::List => return false,
+                },
+            }
         }
     }
 }

@@ -32,7 +32,6 @@ mod saved;
 
 use crate::answers::{Done, Private, Seen};
 use crate::fences;
-use crate::going::Gone;
 use crate::next_events::{Ends, NextEvent};
 use crate::parts::{Parts, bytes_in};
 use arm_exec::enters;
@@ -213,17 +212,10 @@ impl Machine {
         ensures end { 0 < end → IsTurnEnd until.0 self.new end }
         ensures other { due_or_never self.new (other_proc proc) ≡ due_or_never self.old (other_proc proc) }
     {
-        let next_event = self.next_event;
-        if next_event.line(proc) {
+        if self.next_event.line(proc) {
             return false;
         }
-        'steps: loop {
-            match self.parts.step_fast(&next_event, proc, until, end, limit) {
-                Gone::Took => {}
-                Gone::Over => return true,
-                Gone::Unknown | Gone::List => return false,
-            }
-        }
+        self.parts.go_fast(proc, until, end, limit)
     }
 
     /// The first tick at which a processor that isn't blocked isn't the least acting actor, or isn't due below a limit, any more, while it alone

@@ -261,15 +261,14 @@ fn is_list_left(next: &Operation, clocks: u32) -> bool {
 }
 
 /// The step, where it is fast: a frequent instruction, which reaches RAM alone, or loads from a port that changes no unit and isn't observed; where
-/// it is ahead of its turn, it also has to reach private places alone. Where it isn't taken nothing is changed. No unit changes. Who runs it
-/// says whether it makes one access at most, or is LDM or STM.
+/// it is ahead of its turn (AHEAD is 1), it also has to reach private places alone. Where it isn't taken nothing is changed. No unit changes. Who
+/// runs it says whether it makes one access at most, or is LDM or STM.
 #[inline]
-pub fn take_fast_in_view<V: Side, const VERSION: u32, R: Runner>(
+pub fn take_fast_in_view<V: Side, const VERSION: u32, R: Runner, const AHEAD: u32>(
     s: &mut Registers,
     decoder: &mut Decoder<VERSION>,
     view: &mut V,
     line: bool,
-    ahead: bool,
 ) -> Fast
     requires version { arch_of VERSION ≡ V.side.step.arch }
     requires room { V.finds_room (V.state view.old) }
@@ -279,9 +278,9 @@ pub fn take_fast_in_view<V: Side, const VERSION: u32, R: Runner>(
     ensures state { 0 < result.clocks → V.state view.new ≡ (side_taken V.memory V.side line s.old (V.state view.old)).state }
     ensures stepped { 0 < result.clocks → (side_taken V.memory V.side line s.old (V.state view.old)).stepped ≡ Cost result.clocks }
     ensures waits { 0 < result.clocks → result.waits ≡ side_waits V.memory V.side line s.old (V.state view.old) }
-    ensures stays { ahead ≡ true → 0 < result.clocks → DataStays V.memory V.side s.old (V.state view.old) }
+    ensures stays { AHEAD ≡ 1 → 0 < result.clocks → DataStays V.memory V.side s.old (V.state view.old) }
     ensures leaves { result.leaves ≡ true → DataStays V.memory V.side s.old (V.state view.old) → ⊥ }
-    ensures left { result.leaves ≡ true → (result.clocks ≡ 0) × (ahead ≡ true) }
+    ensures left { result.leaves ≡ true → (result.clocks ≡ 0) × (AHEAD ≡ 1) }
     ensures near { 0 < result.clocks → DataIsNear V.memory V.side s.old (V.state view.old) }
     ensures io { V.io (V.state view.new) ≡ V.io (V.state view.old) }
     ensures same { V.identity view.new ≡ V.identity view.old }
@@ -292,6 +291,7 @@ pub fn take_fast_in_view<V: Side, const VERSION: u32, R: Runner>(
     let fetch = next_fetch(s, view);
     let next = next_operation(s, decoder, view, fetch.number);
     let lists = R::lists();
+    let ahead = AHEAD == 1;
     if ahead && !data_stays(s, view, next, lists) {
         return not_taken(!lists);
     }

@@ -172,19 +172,24 @@ impl Parts {
         }
     }
 
-    /// Takes it where it is fast, and where it is ahead of its turn reaches private places alone: what makes one access at most, or LDM and STM, as
-    /// says who runs it. Where it isn't taken nothing is changed. No unit changes.
+    /// Takes it where it is fast, and where it is ahead of its turn (AHEAD is 1) reaches private places alone: what makes one access at most, or LDM
+    /// and STM, as says who runs it. Where it isn't taken nothing is changed. No unit changes.
     #[inline(always)]
-    pub fn take_fast<R: Runner>(&mut self, proc: Proc, now: Tick, line: bool, ahead: bool) -> Fast
+    pub fn take_fast<R: Runner, const AHEAD: u32>(
+        &mut self,
+        proc: Proc,
+        now: Tick,
+        line: bool,
+    ) -> Fast
         requires early { now.0 ≤ 2 ^ 56 }
         requires line { line ≡ line_of self.old proc }
         requires room { IsFreeFor proc self.old }
         ensures none { result.clocks ≡ 0 → self.new ≡ self.old }
         ensures machine { 0 < result.clocks → self.new ≡ (outcome_of proc now self.old).machine }
         ensures stepped { 0 < result.clocks → (outcome_of proc now self.old).stepped ≡ Cost (ticks_per_clock proc * result.clocks + result.waits) }
-        ensures stays { ahead ≡ true → 0 < result.clocks → DataStaysPrivate now self.old proc }
+        ensures stays { AHEAD ≡ 1 → 0 < result.clocks → DataStaysPrivate now self.old proc }
         ensures leaves { result.leaves ≡ true → DataStaysPrivate now self.old proc → ⊥ }
-        ensures left { result.leaves ≡ true → (result.clocks ≡ 0) × (ahead ≡ true) }
+        ensures left { result.leaves ≡ true → (result.clocks ≡ 0) × (AHEAD ≡ 1) }
         ensures near { 0 < result.clocks → DataStaysNear now self.old proc }
         ensures io { self.new.io ≡ self.old.io }
     {
@@ -199,12 +204,11 @@ impl Parts {
                     now,
                     waits: 0,
                 };
-                take_fast_in_view::<_, 5, R>(
+                take_fast_in_view::<_, 5, R, AHEAD>(
                     &mut self.nine.processor.core.registers,
                     &mut self.nine.decoder,
                     &mut view,
                     line,
-                    ahead,
                 )
             }
             Proc::Seven => {
@@ -214,12 +218,11 @@ impl Parts {
                     now,
                     waits: 0,
                 };
-                take_fast_in_view::<_, 4, R>(
+                take_fast_in_view::<_, 4, R, AHEAD>(
                     &mut self.seven.processor.core.registers,
                     &mut self.seven.decoder,
                     &mut view,
                     line,
-                    ahead,
                 )
             }
         }

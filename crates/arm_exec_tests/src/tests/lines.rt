@@ -274,9 +274,9 @@ fn run_in_ram(
 {
     let made = operation(instr);
     let clocks = if lists {
-        Lists::run::<FlatBus, RamAlone>(arch, s, bus, &made)
+        Lists::<0>::run::<FlatBus, RamAlone>(arch, s, bus, &made)
     } else {
-        Singles::run::<FlatBus, RamAlone>(arch, s, bus, &made)
+        Singles::<0>::run::<FlatBus, RamAlone>(arch, s, bus, &made)
     };
     match clocks {
         0 => None,

@@ -32,7 +32,7 @@ fn cost(bus: &mut FlatBus, code: u32, at: u32) -> u32 {
     let mut s = Registers::boot(0x0200_0000, [0; 3]);
     s.set(1, at);
     let made = operation(decode_arm(Arch::V5, code));
-    Singles::run::<FlatBus, FromPorts>(Arch::V5, &mut s, bus, &made)
+    Singles::<0>::run::<FlatBus, FromPorts>(Arch::V5, &mut s, bus, &made)
 }
 
 #[test]

@@ -57,7 +57,7 @@ returns-clause-stays g c = λ ahead some.
           (by_kind c.lists-lists.result (λ lists. w.data_stays.ensures.list lists w.if-not-data_stays.false)
           (λ one. reach_told g.V.Side.side (g.V.Side.state c.args.view.now) c.args.s.now c.next_operation-next.result.now w.data_stays.ensures.words
           (c.run_fast-clocks.ensures.told (sym c.lists-lists.ensures ∙ one) some) (w.data_stays.ensures.address one) (sym (w.data_stays.ensures.stays one) ∙ w.if-not-data_stays.false)))
-      | else-ahead-via-else-ahead w ↦ absurd (true≢false (sym ahead ∙ w.if-ahead.false))
+      | else-ahead-via-else-ahead w ↦ absurd (w.if-ahead.false ahead)
     ]
 
 pub returns-clause-waits : goal.returns-clause-waits

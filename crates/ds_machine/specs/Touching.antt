@@ -26,7 +26,7 @@ use Rattle.ds_machine.specs.PrivateSides.{SideOf, is_private_to_seven, nine_side
 use Rattle.ds_machine.specs.States.{MachineState}
 use Rattle.ds_machine.specs.Steps.{line_of, nine_reach, processor_of, seven_reach, tick_of}
 
--- What the code says of private places. No public clause speaks of it.
+-- What the code says of private places. Public clauses speak of the instruction at r15 and of footprints alone.
 
 -- the byte at an address lies in a processor's private places, as a write, a fetch, or else a read reaches it
 abbrev pub is_private_to : MachineState → Proc → (writing fetching : Bool) → ℕ → Bool

@@ -1,11 +1,13 @@
 //! What somebody sees of a machine who looks on from outside.
 
 ghost use Rattle.std.specs.Prelude.{◌≡◌};
-ghost use Rattle.ds_machine.specs.Looks.{cpsr_of, looked_of, pc_of};
+ghost use Rattle.ds_machine.specs.Looks.{cpsr_of, IsReached, looked_of, pc_of};
 ghost use Rattle.ds_machine.specs.Steps.{is_halted};
 
 use super::Machine;
 use crate::parts::Parts;
+use arm_core::Reach;
+use arm_exec::enters;
 use ds_base::{Proc, Tick, Width};
 use ds_map::looked_by_nine;
 
@@ -33,6 +35,21 @@ impl Machine {
         ensures { result ≡ looked_of self.now proc now at width }
     {
         self.parts.looked(proc, now, at, width)
+    }
+
+    /// What a processor's next step reaches as data: exactly the bytes of its accesses, and whether they are read, written or both; no byte where its
+    /// condition fails. None where it executes no instruction: it isn't due, enters an interrupt, or fetches none.
+    pub fn reached(&self, proc: Proc) -> Option<Reach>
+        ensures { IsReached self.now proc result }
+    {
+        let registers = &self.parts.processor(proc).core.registers;
+        if self.parts.is_blocked(proc) || enters(registers, self.parts.line(proc)) {
+            return None;
+        }
+        match self.parts.next_instr(proc) {
+            Some(instr) => Some(self.parts.footprint_of(proc, &instr)),
+            None => None,
+        }
     }
 
     /// The address of a processor's next instruction.

@@ -211,7 +211,7 @@ unfolding dma_format_by
 dma_stands asked at s early is by comes holds =
     let channel = channel_at s.channels in
     let stands : (which : ℕ) (own : Bool → Bool) → which < 4 → own (is_running (channel which)) ≡ true
-        → StandsFor (channel_format_by s.proc which own) at (channel which) =
+    → StandsFor (channel_format_by s.proc which own) at (channel which) =
     λ which own l. channel_stands s.proc which own at (channel which) early (is.each which l) (by.trigger which l) in
     let free : (which : ℕ) → which < 4 → StandsFor (channel_format s.proc which) at (channel which) = λ which l. stands which (λ running. true) l refl in
     let keeps = last_keeps at s.last early is.last by.last in

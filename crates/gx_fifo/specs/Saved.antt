@@ -96,6 +96,7 @@ pub record GxIsSaved : Type 0 where
   pub back : (at : ℕ) (s : GxState) → at ≤ 2 ^ 56 → IsSavedGx at s → RoundTrips gx_format at s
   pub back_by : (asked : ℕ → ℕ → Bool) (at : ℕ) (s : GxState) → at ≤ 2 ^ 56 → IsSavedGx at s → asked s.selector (waiting_entries s) ≡ true
       → RoundTrips (gx_format_by asked) at s
-  pub same_bytes : (asked : ℕ → ℕ → Bool) (before : List ℕ) (s : GxState) → bytes_written (gx_format_by asked) before s ≡ bytes_written gx_format before s
+  pub same_bytes : (asked : ℕ → ℕ → Bool) (before : List ℕ) (s : GxState)
+      → bytes_written (gx_format_by asked) before s ≡ bytes_written gx_format before s
   pub spelling : (at : ℕ) → OneSpelling gx_format at
   pub spelling_by : (asked : ℕ → ℕ → Bool) (at : ℕ) → OneSpelling (gx_format_by asked) at

@@ -55,7 +55,8 @@ pub fn take_last(
     before: bool,
 ) -> Result<Channel, Unpacked>
     requires { IsEarly (Some at) }
-    ensures reads { GivesRead (λ x. x) result from.new (read_format (channel_format_by proc which (asked_last (late_runs_by late) before)) at.0 from.old) }
+    ensures reads { GivesRead (λ x. x) result from.new
+        (read_format (channel_format_by proc which (asked_last (late_runs_by late) before)) at.0 from.old) }
     ensures is { IfOk result (λ channel. IsChannel proc which channel) }
     ensures early { IfOk result (λ channel. IsEarly channel.trigger) }
 {

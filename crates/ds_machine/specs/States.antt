@@ -1,4 +1,4 @@
-use Rattle.std.specs.Prelude.{ℕ, ◌+◌, List, [], Option, None, Some}
+use Rattle.std.specs.Prelude.{ℕ, ◌+◌, List}
 use Rattle.arm_core.specs.Registers.{RegisterState}
 use Rattle.cp15_tcm.specs.Registers.{Cp15State}
 use Rattle.ds_base.specs.declared.keys.KeyLine.{KeyLine}
@@ -40,11 +40,6 @@ pub record MachineState : Type 0 where
   pub keys : List KeyLine
   pub events : ℕ
   pub file : List ℕ
-
--- the bytes of the cartridge in the slot; an empty slot has none
-abbrev pub file_in : Option (List ℕ) → List ℕ
-file_in None = []
-file_in (Some file) = file
 
 -- The machine with another cartridge's file. A machine may step with a cartridge that is lent to it: its state is read together with that file
 abbrev pub with_file : List ℕ → MachineState → MachineState

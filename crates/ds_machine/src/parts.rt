@@ -1,12 +1,12 @@
 //! The machine's parts, and what is told of them.
 
-ghost use Rattle.std.specs.Prelude.{◌≡◌, IfOk};
+ghost use Rattle.std.specs.Prelude.{◌≡◌, [], unwrap_or, IfOk};
 ghost use Rattle.ds_ports.specs.Io.{io_at_boot};
 ghost use Rattle.ds_machine.specs.Booted.{machine_blank, machine_booted};
 ghost use Rattle.ds_machine.specs.Inspections.{fetch_of};
 ghost use Rattle.ds_machine.specs.Processors.{state_of};
 ghost use Rattle.ds_machine.specs.Sound.{HasSoundParts};
-ghost use Rattle.ds_machine.specs.States.{file_in, with_file};
+ghost use Rattle.ds_machine.specs.States.{with_file};
 ghost use Rattle.ds_machine.specs.Steps.{is_blocked, line_of, processor_of};
 
 use crate::processors::Processor;
@@ -52,8 +52,8 @@ pub struct Parts {
 impl Model for Parts {
     ghost use Rattle.ds_base.specs.declared.processors.Arch.TheVariants.{V4, V5};
     ghost use Rattle.ds_machine.specs.Processors.{state_of};
-    ghost use Rattle.ds_machine.specs.States.{file_in, MachineState};
-    ghost use Rattle.std.specs.Prelude.{◌≡◌};
+    ghost use Rattle.ds_machine.specs.States.{MachineState};
+    ghost use Rattle.std.specs.Prelude.{◌≡◌, [], unwrap_or};
 
     ghost Value = { MachineState };
 
@@ -72,7 +72,7 @@ impl Model for Parts {
       io = m.io;
       keys = m.script;
       events = m.events;
-      file = file_in m.slot;
+      file = unwrap_or m.slot [];
     } };
 
     ghost invariant = { λ m. (m.nine.processor.core.arch ≡ V5) × (m.seven.processor.core.arch ≡ V4) };
@@ -81,7 +81,7 @@ impl Model for Parts {
 /// The bytes of the cartridge in the slot; an empty slot has none.
 #[inline(always)]
 pub fn bytes_in(slot: &Option<Cart>) -> &[u8]
-    ensures { result.now ≡ file_in slot.now }
+    ensures { result.now ≡ unwrap_or slot.now [] }
 {
     match slot {
         Some(cart) => cart.bytes(),

@@ -9,7 +9,7 @@ ghost use Rattle.ds_machine.specs.TurnLaws.{MayStep};
 ghost use Rattle.ds_machine.specs.GuardedSteps.{IsFreeFor};
 ghost use Rattle.ds_machine.specs.Processors.{stop_in};
 ghost use Rattle.ds_machine.specs.Reference.{awake, due_by, step_by};
-ghost use Rattle.ds_machine.specs.States.{file_in, with_file};
+ghost use Rattle.ds_machine.specs.States.{with_file};
 ghost use Rattle.ds_machine.specs.Private as private;
 ghost use Rattle.ds_machine.specs.StepAnswers.{done_of, stepped_of, Steps};
 ghost use Rattle.ds_machine.specs.CountingLaws.{last_limit, IsRunning};

@@ -1,9 +1,10 @@
 use Rattle.std.proofs.Common.{ℕ, ◌≡◌, ◌≤◌, ◌<◌, List, [], length, true, false, Bool, Option, Some, None, is_some, unwrap_or, refl, sym, ◌∙◌, ap, subst, if◌then◌else◌}
 use Rattle.std.proofs.lemmas.Option.{same_Some, none-some}
+use Rattle.std.specs.Prelude.{IfSome}
 use Rattle.ds_io.specs.Faults.{Rose}
 use Rattle.ds_io.specs.Shelves.{Named, Told, file_of, files_of, found_in, left_of, Finds, TookAll, TookTooMany}
 use Rattle.ds_io.proofs.Putting.{rose_within}
-use Rattle.nds_answers.specs.Loads.{IsCart, IsFile, IsLong, RefusesCart, RefusesRun, RefusesScript, cartridge, script}
+use Rattle.nds_answers.specs.Loads.{IsCart, RefusesCart, RefusesRun, RefusesScript, cartridge, script}
 use Rattle.nds_answers.specs.declared.statuses.Status.{Status}
 use Rattle.nds_answers.specs.declared.statuses.Status.TheVariants.{Done, Usage, NoFile, ReadFault, WriteFault, TooLong, BadHeader, BadScript, LeftOut, BadText, BadState, NoMemory}
 
@@ -17,7 +18,8 @@ found_left s name None e = cc
 found_left s name (Some x) e = refl
 
 -- a file that was found and read whole
-pub all_is_file : (told mid new : Option Told) (name bytes : List ℕ) → Finds told name true mid → TookAll mid bytes new → IsFile (files_of told) name bytes
+pub all_is_file : (told mid new : Option Told) (name bytes : List ℕ) → Finds told name true mid → TookAll mid bytes new
+    → IfSome (files_of told) (λ fs. file_of fs name ≡ Some bytes)
 all_is_file None mid new name bytes found took = tt
 all_is_file (Some s) None new name bytes found took = absurd (none-some _ found.1)
 all_is_file (Some s) (Some m) new name bytes found took =
@@ -26,7 +28,8 @@ all_is_file (Some s) (Some m) new name bytes found took =
     rw (sym all) at (some_is (file_of s.files name) found.0)
 
 -- a file that was found and is too long
-pub long_is_file : (told mid new : Option Told) (name : List ℕ) (limit : ℕ) → Finds told name true mid → TookTooMany mid limit new → IsLong (files_of told) name limit
+pub long_is_file : (told mid new : Option Told) (name : List ℕ) (limit : ℕ) → Finds told name true mid → TookTooMany mid limit new
+    → IfSome (files_of told) (λ fs. (bytes : List ℕ) × (file_of fs name ≡ Some bytes) × (limit < length bytes))
 long_is_file None mid new name limit found took = tt
 long_is_file (Some s) None new name limit found took = absurd (none-some _ found.1)
 long_is_file (Some s) (Some m) new name limit found took =

@@ -8,28 +8,17 @@ use Rattle.nds_answers.specs.declared.statuses.Status.TheVariants.{NoFile, ReadF
 
 -- What the files of a command are, by the files of the shelf, where it tells them.
 
--- the file of a name has these bytes
-abbrev pub IsFile : Option (List Named) → List ℕ → List ℕ → Type 0
-IsFile files name bytes = IfSome files (λ fs. file_of fs name ≡ Some bytes)
-
--- no file has the name
-abbrev pub IsAbsent : Option (List Named) → List ℕ → Type 0
-IsAbsent files name = IfSome files (λ fs. file_of fs name ≡ None)
-
--- the file of a name has more bytes than the limit
-abbrev pub IsLong : Option (List Named) → List ℕ → ℕ → Type 0
-IsLong files name limit = IfSome files (λ fs. (bytes : List ℕ) × (file_of fs name ≡ Some bytes) × (limit < length bytes))
-
 -- the file of a name is found, read and not too long, and its bytes are these
 pub record IsFileRead (files : Option (List Named)) (name : List ℕ) (limit : ℕ) (bytes : List ℕ) : Type 0 where
-  pub read : IsFile files name bytes
+  pub read : IfSome files (λ fs. file_of fs name ≡ Some bytes)
   pub short : length bytes ≤ limit
 
--- when each refusal of a file comes; `rose` says that the shelf's count of faults rose, and want of memory is free
+-- when each refusal of a file comes: no file has the name, or the one that has it has more bytes than the limit; `rose` says that the shelf's count of
+-- faults rose, and want of memory is free
 abbrev pub Refuses : Option (List Named) → Type 0 → List ℕ → ℕ → Status → Type 0
-Refuses files rose name limit NoFile = IsAbsent files name
+Refuses files rose name limit NoFile = IfSome files (λ fs. file_of fs name ≡ None)
 Refuses files rose name limit ReadFault = rose
-Refuses files rose name limit TooLong = IsLong files name limit
+Refuses files rose name limit TooLong = IfSome files (λ fs. (bytes : List ℕ) × (file_of fs name ≡ Some bytes) × (limit < length bytes))
 Refuses files rose name limit NoMemory = Unit {0}
 Refuses files rose name limit other = ⊥
 

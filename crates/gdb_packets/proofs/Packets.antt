@@ -6,7 +6,7 @@ use Rattle.std.specs.List.{fold}
 use Rattle.ds_base.proofs.Choices.{if_false, if_true, true_or_false}
 use Rattle.ds_base.specs.Digits.{hex_digit}
 use Rattle.gdb_packets.specs.Packets.{escaped, escaped_byte, stands_for_else}
-use Rattle.gdb_packets.specs.Hearing.{Hearing, HearsNothing, PacketsAreHeard, answer_at, counted, digit_value, ended, heard, heard_at, heard_more, heard_none, kept}
+use Rattle.gdb_packets.specs.Hearing.{Hearing, HearsNothing, PacketsAreHeard, answer_at, byte_counted, hex_value, packet_ended, heard, heard_at, heard_more, heard_none, byte_kept}
 use Rattle.gdb_packets.specs.declared.framing.Heard.TheVariants.{Broken, Packet}
 use Rattle.gdb_packets.specs.declared.framing.Place.{Place}
 use Rattle.gdb_packets.specs.declared.framing.Place.TheVariants.{Body, Escaped, First, Second}
@@ -22,7 +22,7 @@ hears_then [] b start middle end (heard_none h) other = other
 hears_then (x ∷ a) b start middle end (heard_more byte rest h last nothing others) other =
     heard_more x (a ++ b) start end nothing (hears_then a b (heard start x) middle end others other)
 
-kept_short : (h : Hearing) (byte : ℕ) → length h.body < 0x8000 → kept h byte ≡ record h { body = h.body ++ byte ∷ [] }
+kept_short : (h : Hearing) (byte : ℕ) → length h.body < 0x8000 → byte_kept h byte ≡ record h { body = h.body ++ byte ∷ [] }
 kept_short h byte short = if_false (nat_le 0x8000 (length h.body)) _ _ (grind (arith, short))
 
 -- ---- one byte of a body
@@ -34,9 +34,9 @@ module _ (done : List ℕ) (total : ℕ) (short : length done < 0x8000) where
   -- one that has an escape
   escape_heard : (turned : ℕ) → HearsNothing (125 ∷ turned ∷ []) (inside done total) (after (bit_xor turned 32) (sum (125 ∷ turned ∷ [])))
   escape_heard turned =
-      let first = counted (inside done total) Escaped 125 in
+      let first = byte_counted (inside done total) Escaped 125 in
       let is : heard first turned ≡ after (bit_xor turned 32) (sum (125 ∷ turned ∷ [])) =
-      kept_short (counted first Body turned) (bit_xor turned 32) short ∙ ap (λ (n : ℕ). inside (done ++ bit_xor turned 32 ∷ []) n) (sums total turned) in
+      kept_short (byte_counted first Body turned) (bit_xor turned 32) short ∙ ap (λ (n : ℕ). inside (done ++ bit_xor turned 32 ∷ []) n) (sums total turned) in
       heard_more 125 (turned ∷ []) (inside done total) _ refl (heard_more turned [] first _ refl (subst (HearsNothing [] (heard first turned)) is (heard_none (heard first turned)))) where
         sums : (a b : ℕ) → ((a + 125) % 256 + b) % 256 ≡ (a + (125 + b)) % 256
         sums a b = omega arith
@@ -46,7 +46,7 @@ module _ (done : List ℕ) (total : ℕ) (short : length done < 0x8000) where
   plain_heard byte no35 no36 no125 =
       let is : heard (inside done total) byte ≡ after byte (sum (byte ∷ [])) =
       if_false (byte == 35) _ _ no35 ∙ if_false (byte == 36) _ _ no36 ∙ if_false (byte == 125) _ _ no125
-      ∙ kept_short (counted (inside done total) Body byte) byte short ∙ ap (λ (n : ℕ). inside (done ++ byte ∷ []) n) (sums total byte) in
+      ∙ kept_short (byte_counted (inside done total) Body byte) byte short ∙ ap (λ (n : ℕ). inside (done ++ byte ∷ []) n) (sums total byte) in
       heard_more byte [] (inside done total) _ refl (subst (HearsNothing [] (heard (inside done total) byte)) is (heard_none (heard (inside done total) byte))) where
         sums : (a b : ℕ) → (a + b) % 256 ≡ (a + (0 + b)) % 256
         sums a b = omega arith
@@ -115,7 +115,7 @@ body_heard (byte ∷ body) done total low short =
 
 -- ---- its sum
 
-digit_back : (d : ℕ) → d < 16 → digit_value (hex_digit d) ≡ Some d
+digit_back : (d : ℕ) → d < 16 → hex_value (hex_digit d) ≡ Some d
 digit_back d lt = grind (arith, lt)
 
 digit : (total : ℕ) → total / 16 ^ 1 % 16 < 16
@@ -126,7 +126,7 @@ last_digit total = omega arith
 
 -- so its two digits tell it
 packet_by : (total : ℕ) (a b : Option ℕ) → total < 256 → a ≡ Some (total / 16 ^ 1 % 16) → b ≡ Some (total / 16 ^ 0 % 16) → (body : List ℕ) (place : Place)
-    → ended (record { body = body; place = place; total = total; is_long = false }) a b ≡ Packet
+    → packet_ended (record { body = body; place = place; total = total; is_long = false }) a b ≡ Packet
 packet_by total a b low high_is low_is body place =
     let told = (total / 16 ^ 1 % 16 * 16 + total / 16 ^ 0 % 16) % 256 in
     let e : told ≡ total = omega (arith, low) in
@@ -138,8 +138,8 @@ packets_are_heard body start short place =
     let total = sum (escaped body) % 256 in
     let high = hex_digit (total / 16 ^ 1 % 16) in
     let low = hex_digit (total / 16 ^ 0 % 16) in
-    let begun : heard start 36 ≡ inside [] 0 = ap (λ (p : Place). heard_at p start 36) place in
-    let before : Hearing = record { body = body; place = Second (digit_value high); total = total; is_long = false } in
+    let packet_begun : heard start 36 ≡ inside [] 0 = ap (λ (p : Place). heard_at p start 36) place in
+    let before : Hearing = record { body = body; place = Second (hex_value high); total = total; is_long = false } in
     let same : (0 + sum (escaped body)) % 256 ≡ total = omega arith in
     let said = subst (λ (t : ℕ). HearsNothing (escaped body) (inside [] 0) (inside body t)) same (body_heard body [] 0 (omega arith) (grind (arith, short))) in
     let ends : HearsNothing (35 ∷ high ∷ []) (inside body total) before =
@@ -150,10 +150,10 @@ packets_are_heard body start short place =
       are = ap (λ (bytes : List ℕ). 36 ∷ bytes) (sym (append_assoc (escaped body) (35 ∷ high ∷ []) (low ∷ [])));
       before = before;
       nothing = heard_more 36 (escaped body ++ 35 ∷ high ∷ []) start before (ap (λ (p : Place). answer_at p start 36) place)
-          (subst (λ (h : Hearing). HearsNothing (escaped body ++ 35 ∷ high ∷ []) h before) (sym begun)
+          (subst (λ (h : Hearing). HearsNothing (escaped body ++ 35 ∷ high ∷ []) h before) (sym packet_begun)
           (hears_then (escaped body) (35 ∷ high ∷ []) (inside [] 0) (inside body total) before said ends));
-      packet = packet_by total (digit_value high) (digit_value low) (modulo (sum (escaped body))) (digit_back (total / 16 ^ 1 % 16) (digit total))
-          (digit_back (total / 16 ^ 0 % 16) (last_digit total)) body (Second (digit_value high));
-      kept = refl;
+      packet = packet_by total (hex_value high) (hex_value low) (modulo (sum (escaped body))) (digit_back (total / 16 ^ 1 % 16) (digit total))
+          (digit_back (total / 16 ^ 0 % 16) (last_digit total)) body (Second (hex_value high));
+      keeps = refl;
       place = refl;
     }

@@ -16,28 +16,28 @@ pub record Hearing : Type 0 where
   pub is_long : Bool
 
 -- `$` begins one
-abbrev pub begun : Hearing → ℕ → Hearing
-begun h byte = if byte == 36 then record { body = []; place = Body; total = 0; is_long = false } else h
+abbrev pub packet_begun : Hearing → ℕ → Hearing
+packet_begun h byte = if byte == 36 then record { body = []; place = Body; total = 0; is_long = false } else h
 
 -- a byte counts in the sum
-abbrev pub counted : Hearing → Place → ℕ → Hearing
-counted h place byte = record h { total = (h.total + byte) % 256; place = place }
+abbrev pub byte_counted : Hearing → Place → ℕ → Hearing
+byte_counted h place byte = record h { total = (h.total + byte) % 256; place = place }
 
 -- a byte of the body is kept, up to 8000h of them
-abbrev pub kept : Hearing → ℕ → Hearing
-kept h byte = if nat_le 0x8000 (length h.body) then record h { is_long = true } else record h { body = h.body ++ byte ∷ [] }
+abbrev pub byte_kept : Hearing → ℕ → Hearing
+byte_kept h byte = if nat_le 0x8000 (length h.body) then record h { is_long = true } else record h { body = h.body ++ byte ∷ [] }
 
 -- in the body `#` ends it, `$` begins it anew, and `}` says that the next byte stands for itself with bit 5 turned
 abbrev pub heard_in_body : Hearing → ℕ → Hearing
 heard_in_body h byte =
     if byte == 35 then record h { place = First }
-    else if byte == 36 then begun h byte
-    else if byte == 125 then counted h Escaped byte
-    else kept (counted h Body byte) byte
+    else if byte == 36 then packet_begun h byte
+    else if byte == 125 then byte_counted h Escaped byte
+    else byte_kept (byte_counted h Body byte) byte
 
 -- the value of a hexadecimal digit in either case
-abbrev pub digit_value : ℕ → Option ℕ
-digit_value byte =
+abbrev pub hex_value : ℕ → Option ℕ
+hex_value byte =
     if nat_le 48 byte && nat_le byte 57 then Some (byte - 48)
     else if nat_le 97 byte && nat_le byte 102 then Some (byte - 97 + 10)
     else if nat_le 65 byte && nat_le byte 70 then Some (byte - 65 + 10)
@@ -45,20 +45,20 @@ digit_value byte =
 
 -- how far it has come with one more byte
 abbrev pub heard_at : Place → Hearing → ℕ → Hearing
-heard_at Between h byte = begun h byte
+heard_at Between h byte = packet_begun h byte
 heard_at Body h byte = heard_in_body h byte
-heard_at Escaped h byte = kept (counted h Body byte) (bit_xor byte 32)
-heard_at First h byte = record h { place = Second (digit_value byte) }
+heard_at Escaped h byte = byte_kept (byte_counted h Body byte) (bit_xor byte 32)
+heard_at First h byte = record h { place = Second (hex_value byte) }
 heard_at (Second first) h byte = record h { place = Between }
 
 abbrev pub heard : Hearing → ℕ → Hearing
 heard h byte = heard_at h.place h byte
 
 -- what the last digit of the sum completes
-abbrev pub ended : Hearing → Option ℕ → Option ℕ → Heard
-ended h (Some high) (Some low) = if ((high * 16 + low) % 256 == h.total) && not h.is_long then Packet else Broken
-ended h (Some high) None = Broken
-ended h None low = Broken
+abbrev pub packet_ended : Hearing → Option ℕ → Option ℕ → Heard
+packet_ended h (Some high) (Some low) = if ((high * 16 + low) % 256 == h.total) && not h.is_long then Packet else Broken
+packet_ended h (Some high) None = Broken
+packet_ended h None low = Broken
 
 -- and a byte between packets
 abbrev pub sign_of : ℕ → Heard
@@ -70,7 +70,7 @@ answer_at Between h byte = sign_of byte
 answer_at Body h byte = Nothing
 answer_at Escaped h byte = Nothing
 answer_at First h byte = Nothing
-answer_at (Second first) h byte = ended h first (digit_value byte)
+answer_at (Second first) h byte = packet_ended h first (hex_value byte)
 
 abbrev pub answer : Hearing → ℕ → Heard
 answer h byte = answer_at h.place h byte
@@ -91,7 +91,7 @@ pub record HearsPacket (bytes : List ℕ) (start : Hearing) (body : List ℕ) : 
   pub before : Hearing
   pub nothing : HearsNothing front start before
   pub packet : answer before last ≡ Packet
-  pub kept : (heard before last).body ≡ body
+  pub keeps : (heard before last).body ≡ body
   pub place : (heard before last).place ≡ Between
 
 -- between packets a packet of up to 8000h bytes, with its escapes and its sum, is heard as its body

@@ -1,8 +1,7 @@
 //! Bytes to packets.
 
 ghost use Rattle.std.specs.Prelude.{◌≡◌, ◌%◌, [], false, IfOk, OnOk};
-ghost use Rattle.gdb_packets.specs.Hearing as hearing;
-ghost use Rattle.gdb_packets.specs.Hearing.{answer, begun, counted, ended, heard, heard_in_body, kept, sign_of, PacketsAreHeard};
+ghost use Rattle.gdb_packets.specs.Hearing.{answer, byte_counted, byte_kept, heard, heard_in_body, hex_value, packet_begun, packet_ended, sign_of, PacketsAreHeard};
 ghost use Rattle.gdb_packets.specs.declared.framing.Heard.TheVariants.{Nothing};
 ghost use Rattle.gdb_packets.specs.declared.framing.Place.TheVariants.{Between, Body};
 
@@ -61,7 +60,7 @@ impl Model for Framer {
 
 /// The value of a hexadecimal digit in either case.
 pub(crate) fn digit_value(byte: u8) -> Option<u8>
-    ensures { result ≡ hearing.digit_value byte }
+    ensures { result ≡ hex_value byte }
 {
     match byte {
         b'0'..=b'9' => Some(byte - b'0'),
@@ -117,7 +116,7 @@ impl Framer {
 
     /// A byte between packets.
     fn begin(&mut self, byte: u8) -> Heard
-        ensures state { self.new ≡ begun self.old byte }
+        ensures state { self.new ≡ packet_begun self.old byte }
         ensures answer { result ≡ sign_of byte }
     {
         match byte {
@@ -136,7 +135,7 @@ impl Framer {
 
     /// Counts a byte in the sum. The next one stands at a place.
     fn count(&mut self, place: Place, byte: u8)
-        ensures { self.new ≡ counted self.old place byte }
+        ensures { self.new ≡ byte_counted self.old place byte }
     {
         self.sum = self.sum.wrapping_add(byte);
         self.place = place;
@@ -162,7 +161,7 @@ impl Framer {
 
     /// Keeps a byte of the body, up to the most.
     fn keep(&mut self, byte: u8) -> Result<(), AllocError>
-        ensures { OnOk result (self.new ≡ kept self.old byte) }
+        ensures { OnOk result (self.new ≡ byte_kept self.old byte) }
     {
         if self.body.len() >= MOST_BODY {
             self.is_long = true;
@@ -175,7 +174,7 @@ impl Framer {
     /// The last digit of the sum.
     fn end(&mut self, first: Option<u8>, byte: u8) -> Heard
         ensures state { self.new ≡ record self.old { place = Between } }
-        ensures answer { result ≡ ended self.old first (hearing.digit_value byte) }
+        ensures answer { result ≡ packet_ended self.old first (hex_value byte) }
     {
         self.place = Place::Between;
         let (Some(high), Some(low)) = (first, digit_value(byte)) else {

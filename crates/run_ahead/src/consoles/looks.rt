@@ -2,12 +2,13 @@
 
 ghost use Rattle.std.specs.Prelude.{◌≡◌, ◌<◌};
 ghost use Rattle.ds_runs.specs.Runs.{due_at};
-ghost use Rattle.ds_machine.specs.Looks.{cpsr_of, pc_of};
+ghost use Rattle.ds_machine.specs.Looks.{cpsr_of, IsReached, pc_of};
 ghost use Rattle.ds_machine.specs.Reference.{dues_of};
 ghost use Rattle.ds_machine.specs.Steps.{is_halted, processor_of};
 ghost use Rattle.run_ahead.specs.Looks.{looked_in};
 
 use super::Console;
+use arm_core::Reach;
 use ds_base::{Proc, Tick, Width};
 
 impl Console {
@@ -17,6 +18,14 @@ impl Console {
         ensures { result ≡ looked_in self.now proc at width }
     {
         self.machine.looked(proc, Tick(self.limit), at, width)
+    }
+
+    /// What a processor's next step reaches as data: exactly the bytes of its accesses, and whether they are read, written or both; no byte where its
+    /// condition fails. None where it executes no instruction: it isn't due, enters an interrupt, or fetches none.
+    pub fn reached(&self, proc: Proc) -> Option<Reach>
+        ensures { IsReached self.now.machine proc result }
+    {
+        self.machine.reached(proc)
     }
 
     /// The address of a processor's next instruction.

@@ -1,5 +1,9 @@
-use Rattle.run_ahead.proofs.Words.{ℕ, ◌≡◌, ◌+◌, [], max, refl, sym, ◌∙◌, ap, subst, arith, last_frame, last_lists, ConsoleState, Turns, run_to}
+use Rattle.run_ahead.proofs.Words.{ℕ, ◌≡◌, ◌+◌, ◌⊎◌, inl, inr, [], Option, Some, None, true≢false, max, refl, sym, ◌∙◌, ap, subst, arith, LeftOut}
+use Rattle.run_ahead.proofs.Words.{last_frame, last_lists, MachineState, ConsoleState, Turns, run_to, raised, raised_by}
 use Rattle.run_ahead.proofs.Words.{one_more_turn, counted_of, turns_in, HasTurned, no_turn, one_turn, GoesOn, RanOn}
+use Rattle.std.proofs.Common.{is_some}
+use Rattle.run_ahead.specs.TurnLaws.{EachRan, RunsOn, TurnsUpTo, shown_in}
+use Rattle.ds_machine.specs.FrameLaws.{FollowFrames, FollowLists}
 use Rattle.run_ahead.specs.declared.turns.Turned as turned
 use Rattle.run_ahead.specs.declared.turns.Turned.TheVariants as answers
 use Rattle.run_ahead.proofs.TurnLaws.{turns_add_up}
@@ -50,3 +54,80 @@ ran_more until start before now ran last on frame lists = record {
 pub up_to_counts : (until : ℕ) (start before now : ConsoleState) (answer : turned.Turned) (ran : RanOn until start before) → Turns until before answer now
     → now.turns ≡ counted_of answer + turns_in ran.turned + start.turns
 up_to_counts until start before now answer ran last = turns_add_up until start now (one_turn start before now answer ran.turned last)
+
+-- ---- a turn whose limit was raised before
+
+raised_machine : (s : Option LeftOut) (until : ℕ) (c : ConsoleState) → (raised_by s until c).machine ≡ c.machine
+raised_machine None until c = refl
+raised_machine (Some left) until c = refl
+
+-- raising the limit leaves the machine
+pub raised_leaves : (until : ℕ) (c : ConsoleState) → (raised until c).machine ≡ c.machine
+raised_leaves until c = raised_machine c.stopped until c
+
+module _ (until : ℕ) (old : ConsoleState) (still : old.stopped ≡ None) where
+  abbrev from : ConsoleState
+  from = run_to old until old.machine
+
+  same_run : (next : MachineState) → run_to from until next ≡ run_to old until next
+  same_run next = ap (λ (l : ℕ). (let c : ConsoleState = record old { machine = next; limit = l } in c)) (max_same old.limit until) where
+    max_same : (a b : ℕ) → max (max a b) b ≡ max a b
+    max_same a b = omega arith
+
+  -- the first turn does the same
+  raised_turn : (new : ConsoleState) (answer : turned.Turned) → Turns until from answer new → Turns until old answer new
+  raised_turn new answers.Ran t = (t.0, t.1, t.2 ∙ ap one_more_turn (same_run new.machine))
+  raised_turn new (answers.Frame swapped) t = (t.0, t.1, t.2 ∙ ap one_more_turn (same_run new.machine))
+  raised_turn new answers.AtEnd t = (t.0, t.1, t.2 ∙ same_run old.machine)
+  raised_turn new (answers.Stopped left) t = (
+    λ none. (let k = t.0 none in (k.0, k.1 ∙ ap (λ (c : ConsoleState). record c { stopped = Some left }) (same_run new.machine))),
+    λ some. absurd (true≢false (sym some ∙ ap is_some still)),
+  )
+
+  -- turns from there are none, or turns from before it
+  raised_turned : (now : ConsoleState) (t : HasTurned until from now) → EachRan t
+      → ((now ≡ from) × (turns_in t ≡ 0)) ⊎ ((u : HasTurned until old now) × EachRan u × (turns_in u ≡ turns_in t))
+  raised_turned now (no_turn start) each = inl (refl, refl)
+  raised_turned now (one_turn start before next answer earlier last) each = elim (raised_turned before earlier each.0) [
+    | inl is ↦ inr (
+      one_turn old old next answer (no_turn old) (raised_turn next answer (subst (λ (c : ConsoleState). Turns until c answer next) is.0 last)),
+      (tt, each.1),
+      ap (λ (n : ℕ). counted_of answer + n) (sym is.1),
+    )
+    | inr k ↦ inr (one_turn old before next answer k.0 last, (k.1, each.1), ap (λ (n : ℕ). counted_of answer + n) k.2)
+  ]
+
+-- so turns up to one that answers otherwise are those from before the limit was raised
+pub up_to_raised : (until : ℕ) (old : ConsoleState) (answer : turned.Turned) (new : ConsoleState) → TurnsUpTo until (raised until old) answer new → TurnsUpTo until old answer new
+unfolding ran_first
+up_to_raised until old answer new = by_stop old.stopped refl where
+  by_stop : (s : Option LeftOut) → old.stopped ≡ s → TurnsUpTo until (raised_by s until old) answer new → TurnsUpTo until old answer new
+  by_stop (Some left) e t = t
+  by_stop None e t = elim (raised_turned until old e t.before t.ran.turned t.ran.each_ran) [
+    | inl is ↦ (let machine = ap (λ (c : ConsoleState). c.machine) is.0 in record {
+      before = old;
+      ran = ran_first until old;
+      last = raised_turn until old e new answer (subst (λ (c : ConsoleState). Turns until c answer new) is.0 t.last);
+      runs = λ none. subst (λ (m : MachineState). RunsOn until m answer new.machine) machine (t.runs (ap (λ (c : ConsoleState). c.stopped) is.0 ∙ none));
+      frames = subst (λ (m : MachineState). FollowFrames m new.machine (shown_in answer m new.machine)) machine t.frames;
+      lists = subst (λ (m : MachineState). FollowLists m new.machine (shown_in answer m new.machine)) machine t.lists;
+      counted = t.counted ∙ ap (λ (n : ℕ). counted_of answer + n + old.turns) is.1;
+    })
+    | inr k ↦ record {
+      before = t.before;
+      ran = record {
+        turned = k.0;
+        each_ran = k.1;
+        stopped = t.ran.stopped;
+        limit = (let l = t.ran.limit in omega (arith, l));
+        goes_on = t.ran.goes_on;
+        frame = t.ran.frame;
+        lists = t.ran.lists;
+      };
+      last = t.last;
+      runs = t.runs;
+      frames = t.frames;
+      lists = t.lists;
+      counted = t.counted ∙ ap (λ (n : ℕ). counted_of answer + n + old.turns) (sym k.2);
+    }
+  ]

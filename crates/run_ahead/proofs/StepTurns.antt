@@ -4,7 +4,13 @@ use Rattle.run_ahead.proofs.Words.{IsOver, MachineStep, Makes, due_at, acting_du
 use Rattle.run_ahead.proofs.Words.{observes_by, Shown, dues_of, next_shown, reference_step, IsSound, Steps, MachineState, counts_of, IsLeastBelow}
 use Rattle.run_ahead.proofs.Words.{ActedLeaves, ActedStops, acted_keeps, acted_stops, caught_so, due_of_rank, few_where_stops, running_along}
 use Rattle.run_ahead.proofs.Words.{ConsoleState, open_of, TookStretch, TookTurn, MeetsStop, StopsActing, TakesActing, TakesQuiet, Turns}
-use Rattle.run_ahead.proofs.Words.{one_more_turn, run_to}
+use Rattle.run_ahead.proofs.Words.{one_more_turn, run_to, acting_low, acting_processor, Ends, HasEnds, low_or_high, Nine, Seven, own_tick}
+use Rattle.run_ahead.proofs.Words.{processor_of, rank_of, tick_of}
+use Rattle.ds_machine.specs.NextEvents.{least_of}
+use Rattle.ds_machine.specs.Steps.{is_blocked}
+use Rattle.ds_machine.specs.TurnLaws.{due_or_never}
+use Rattle.ds_machine.proofs.DueTicks.{sort_rank}
+use Rattle.ds_machine.proofs.FastSteps.{wait_is}
 use Rattle.std.proofs.Common.{Fits, w64}
 use Rattle.std.proofs.Math.Facts.{Fits-of_lt}
 use Rattle.std.proofs.lemmas.Bool.{ltb-false, or_parts}
@@ -180,3 +186,24 @@ pub at_once : (until limit : ℕ) (stopped : Option LeftOut) (tick : Tick) → u
     → (max limit until ≡ limit) × (stopped ≡ None)
 at_once until limit None tick le lt = (omega (arith, le), refl)
 at_once until limit (Some left) tick le lt = absurd (omega (arith, le, lt))
+
+-- ---- what is known at once of who acts
+
+-- nobody acts below a limit up to which no event acts, where both processors are due later
+pub ends_over : (until : ℕ) (s : MachineState) (ends : Ends) → HasEnds until s ends → ends.end ≡ until → until ≤ ends.nine → until ≤ ends.seven → IsOver (acting_dues s) until
+ends_over until s ends has end nine seven rank tick h = elim (low_or_high tick.0 until) [
+  | inr le ↦ le
+  | inl lt ↦ elim (sort_rank rank (acting_low s rank tick h)) [
+    | inl event ↦ (let before = ((has.end (omega (arith, lt, end)) tick.0).0 (omega (arith, lt, end))).1 rank tick event h in absurd (omega (arith, before)))
+    | inr (inl e) ↦ (let w = waits Nine (subst (λ (r : ℕ). due_at (acting_dues s) r ≡ Some tick) e h) in let is = has.nine in omega (arith, w, is, nine))
+    | inr (inr e) ↦ (let w = waits Seven (subst (λ (r : ℕ). due_at (acting_dues s) r ≡ Some tick) e h) in let is = has.seven in omega (arith, w, is, seven))
+  ]
+] where
+  waits : (proc : Proc) → due_at (acting_dues s) (rank_of proc) ≡ Some tick → due_or_never s proc ≡ tick.0
+  waits proc there =
+      wait_is (is_blocked s proc) (least_of (is_blocked s proc)) (processor_of s proc) tick refl (sym (acting_processor s proc) ∙ there)
+
+-- a processor that is the least acting actor is due at its tick
+pub first_acts : (until : ℕ) (s : MachineState) (proc : Proc) → IsLeastBelow until s proc → IsLeast (acting_dues s) (tick_of (processor_of s proc)) (rank_of proc)
+first_acts until s proc first =
+    subst (λ (t : Tick). IsLeast (acting_dues s) t (rank_of proc)) (own_tick s proc first.tick (sym (acting_processor s proc) ∙ first.least.there)) first.least

@@ -41,7 +41,7 @@ pub use Rattle.ds_state.specs.Reading.{Left, ReadAnswer, read_format, ◌>>=◌}
 pub use Rattle.ds_state.specs.declared.unpacker.Unpacked.{Unpacked}
 pub use Rattle.run_ahead.specs.Consoles.{ConsoleState, open_of}
 unfoldable pub use Rattle.run_ahead.specs.Heads.{head_format}
-pub use Rattle.run_ahead.specs.Inside.{AreAtOnce, TookStretch, TookTurn}
+pub use Rattle.run_ahead.specs.Inside.{AreAtOnce, TookStretch, TookTurn, raised, raised_by}
 pub use Rattle.run_ahead.specs.Saved.{FailsState, IsReadBack, console_of, format_behind, head_of, read_console, state_bytes}
 unfoldable pub use Rattle.run_ahead.specs.Saved.{read_state}
 pub use Rattle.run_ahead.specs.ToEnd.{TurnsToEnd, at_end, counts, meets_stop}

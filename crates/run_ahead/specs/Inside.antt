@@ -18,7 +18,7 @@ use Rattle.run_ahead.specs.Consoles.{ConsoleState}
 use Rattle.run_ahead.specs.declared.heads.Head.{Head}
 use Rattle.run_ahead.specs.declared.machine_turns.Slow.{Slow}
 use Rattle.run_ahead.specs.declared.machine_turns.Slow.TheVariants as slow
-use Rattle.run_ahead.specs.Turns.{MeetsStop, TakesEvent, TakesQuiet, TakesStretch}
+use Rattle.run_ahead.specs.Turns.{MeetsStop, TakesEvent, TakesQuiet, TakesStretch, run_to}
 
 -- What the machine's side of a turn says. No public clause speaks of it.
 
@@ -68,3 +68,11 @@ pub record AreAtOnce (until : ℕ) (c : ConsoleState) (ends : Ends) : Type 0 whe
 -- the machine behind a head goes on to a limit
 abbrev pub GoesBehind : ℕ → Head → MachineState → Type 0
 GoesBehind limit head s = (head.at < limit) × IsRunning head.at s × (head.turns ≤ counts_of s)
+
+-- the limit is raised to that of a turn, unless the console has stopped
+abbrev pub raised_by : Option LeftOut → ℕ → ConsoleState → ConsoleState
+raised_by None until c = run_to c until c.machine
+raised_by (Some left) until c = c
+
+abbrev pub raised : ℕ → ConsoleState → ConsoleState
+raised until c = raised_by c.stopped until c

@@ -14,7 +14,7 @@ ghost use Rattle.ds_machine.specs.Statuses.{HasBothStatuses};
 ghost use Rattle.ds_machine.specs.TurnLaws.{HasEnds};
 ghost use Rattle.ds_machine.specs.WithinLaws.{IsWithinTick};
 ghost use Rattle.run_ahead.specs.Consoles.{AreWithin};
-ghost use Rattle.run_ahead.specs.Inside.{AreAtOnce, IsAtOnce};
+ghost use Rattle.run_ahead.specs.Inside.{AreAtOnce, IsAtOnce, raised};
 ghost use Rattle.run_ahead.specs.Turns.{Turns, counted_of};
 ghost use Rattle.run_ahead.specs.TurnLaws.{TurnsUpTo, RunsOn, HasRuns, turns_remaining, shown_in};
 ghost use Rattle.ds_base.specs.declared.left_out.LeftOut.{LeftOut};
@@ -23,7 +23,7 @@ ghost use Rattle.run_ahead.specs.declared.turns.Turned.TheVariants.{Ran, Stopped
 mod looks;
 mod saved;
 
-use crate::machine_turns::{take_stretch_of, take_turn};
+use crate::machine_turns::{first_processor, is_over, take_stretch_of, take_turn};
 use crate::turns::Turned;
 use ds_base::{Due, Keys, LeftOut, Memory, Proc, Tick, known};
 use ds_header::Cart;
@@ -122,6 +122,7 @@ impl Console {
         ensures other { result ≢ Ran }
         ensures falls { counted_of result ≡ 1 → turns_remaining until.0 self.new.machine < turns_remaining until.0 self.old.machine }
     {
+        self.raise(until);
         let mut ends = self.ends(until);
         'run: loop {
             known!(self.laws());
@@ -154,6 +155,18 @@ impl Console {
         ensures turns { self.now.turns ≤ 24 * self.now.limit }
     {
         known!(self.machine.laws());
+    }
+
+    /// Raises the limit to that of a turn, as the first turn with it does, unless the console has stopped: so that one may be taken at once.
+    #[inline(always)]
+    fn raise(&mut self, until: Tick)
+        requires { until.0 ≤ 2 ^ 56 }
+        ensures { self.new ≡ raised until.0 self.old }
+    {
+        if self.stopped.is_none() {
+            self.limit = self.limit.max(until.0);
+            self.open_until = self.limit;
+        }
     }
 
     /// By these the processor is found whose turn can be taken at once: it is known to be the least acting actor, and its turn raises no limit.
@@ -215,6 +228,9 @@ impl Console {
         }
         self.limit = self.limit.max(until.0);
         self.open_until = self.limit;
+        if is_over(&self.machine, until) {
+            return Turned::AtEnd;
+        }
         let acting = self.machine.acting();
         if until.0 <= acting.tick.0 && !self.machine.is_behind(until, 0) {
             return Turned::AtEnd;
@@ -244,11 +260,15 @@ impl Console {
         self.machine.due()
     }
 
-    /// The actor that acts next, and when: the least of all that are due but quiet geometry.
+    /// The actor that acts next, and when: the least of all that are due but quiet geometry. A processor is mostly found at once.
+    #[inline(always)]
     pub fn acting(&self) -> Due
         ensures { IsActing self.now.machine result }
     {
-        self.machine.acting()
+        match first_processor(&self.machine) {
+            Some(first) => first,
+            None => self.machine.acting(),
+        }
     }
 
     /// Does nothing; its contract states that the reference run goes on from this machine to every limit.

@@ -1,17 +1,22 @@
 //! A turn of a machine.
 
-ghost use Rattle.std.specs.Prelude.{◌≡◌, ◌<◌, ◌≤◌, ◌^◌, false, true, None, Some};
+ghost use Rattle.std.specs.Prelude.{◌≡◌, ◌<◌, ◌≤◌, ◌^◌, false, true, IfSome, None, Some};
 ghost use Rattle.ds_base.specs.declared.left_out.LeftOut.{LeftOut};
 ghost use Rattle.ds_machine.specs.TurnLaws.{HasEnds, HasLimit};
+ghost use Rattle.ds_machine.specs.Reference.{dues_of};
 ghost use Rattle.ds_machine.specs.Steps.{processor_of};
+ghost use Rattle.ds_runs.specs.Runs.{IsOver};
 ghost use Rattle.ds_machine.specs.Acting.{IsActing, is_behind};
 ghost use Rattle.ds_machine.specs.CountingLaws.{last_limit, IsRunning};
 ghost use Rattle.ds_machine.specs.TurnSteps.{BelongsToTurn, TakesSteps};
 ghost use Rattle.run_ahead.specs.Inside.{HasProcessor, TookSlowly, TookStretch, TookTurn};
 
 use ds_base::{Due, LeftOut, Proc, Tick};
-use ds_machine::{Done, Ends, First, Machine};
+use ds_machine::{Done, Ends, First, Machine, rank_of};
 use ds_runs::Actor;
+
+/// The greatest limit of a turn.
+const MOST_TICK: Tick = Tick(0x100_0000_0000_0000);
 
 /// The processor of a rank, where it is one's.
 fn processor_of(rank: u8) -> Option<Proc>
@@ -179,6 +184,36 @@ fn take_event(machine: &mut Machine, acting: Due, until: Tick) -> Done
 {
     machine.catch_up_before(acting.tick, acting.rank);
     machine.step_inserted(acting.rank)
+}
+
+/// Whether no actor acts below a limit, so far as that is known at once.
+#[inline(always)]
+fn is_quiet_below(ends: Ends, until: Tick) -> bool
+    ensures { result ≡ true → (ends.end ≡ until.0) × (until.0 ≤ ends.nine) × (until.0 ≤ ends.seven) }
+{
+    ends.end == until.0 && until.0 <= ends.nine && until.0 <= ends.seven
+}
+
+/// Whether no actor is due below a limit, so far as that is known at once.
+#[inline(always)]
+pub fn is_over(machine: &Machine, until: Tick) -> bool
+    ensures { result ≡ true → IsOver (dues_of machine.now) until.0 }
+{
+    is_quiet_below(machine.ends(until), until) && !machine.is_behind(until, 0)
+}
+
+/// The processor that is the least acting actor, and when it is due, where that is known at once.
+#[inline(always)]
+pub fn first_processor(machine: &Machine) -> Option<Due>
+    ensures { IfSome result (IsActing machine.now) }
+{
+    match machine.ends(MOST_TICK).first() {
+        Some(first) => Some(Due {
+            tick: machine.tick_of(first.proc),
+            rank: rank_of(first.proc),
+        }),
+        None => None,
+    }
 }
 
 /// Takes a turn of a machine, of which the least actor that acts is given: where it is due below a limit, an event's step, or the steps of a

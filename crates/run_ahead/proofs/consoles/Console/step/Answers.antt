@@ -84,6 +84,15 @@ take_turn-requires-clause-some c = λ le.
       | else-until-acting-via-else-until-acting w ↦ absurd (omega (arith, le, w.if-until-acting.false))
     ])
 
+pub returns-then-is_over : goal.returns-then-is_over
+returns-then-is_over c =
+    let m = c.self.inside.machine in
+    let until = c.args.until.0 in
+    let over = c.is_over.ensures c.if-is_over.true in
+    subst (λ (x : ConsoleState). (x.stopped ≡ None) × IsOver (dues_of x.machine) until
+    × ((let new : ConsoleState = record { machine = m; limit = c.max-self-inside.result; stopped = c.self.inside.stopped; turns = c.self.inside.turns } in new) ≡ run_to x until x.machine)) c.self.view_is
+    (c.in_default.is, over, ap (λ (l : ℕ). (let new : ConsoleState = record { machine = m; limit = l; stopped = c.self.inside.stopped; turns = c.self.inside.turns } in new)) c.max-self-inside.ensures)
+
 pub returns-then-not-is_behind : goal.returns-then-not-is_behind
 returns-then-not-is_behind c =
     let m = c.self.inside.machine in

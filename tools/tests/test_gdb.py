@@ -102,11 +102,12 @@ class CGame(Gdb):
         self.assertRegex(said[7], r"main \(\) at \S*game\.c:")
         self.assertRegex(said[8], r"^#0  (0x\w+ in )?main \(\) at ")
 
-    def test_watchpoints_of_reads_are_refused(self):
-        for kind in ("awatch", "rwatch"):
-            said = self.play(f"{kind} player.x", "continue", "monitor tick")
-            self.assertIn("Could not insert hardware watchpoint 1.", said[2])
-            self.assertEqual(self.tick_of(said[3]), 0)
+    def test_a_watchpoint_of_many_bytes(self):
+        said = self.play("watch *(char(*)[1025])&player", "continue", "monitor tick", "delete", "watch *(char(*)[1024])&player", "continue", "monitor tick")
+        self.assertIn("Could not insert hardware watchpoint 1.", said[2])
+        self.assertEqual(self.tick_of(said[3]), 0)
+        self.assertRegex(said[6], r"Thread \d hit Hardware watchpoint 2: ")
+        self.assertGreater(self.tick_of(said[7]), 0)
 
     def test_what_is_refused(self):
         said = self.play("print score = 7", "set var $r0 = 5", "x/2xw 0x0f000000", "print score", "monitor tick", "x/2xw 0x4000208", "x/xh 0x4000130",
@@ -201,6 +202,44 @@ class Thumb(Gdb):
         self.assertEqual(count % 3, 0)
         self.assertIn(f"Old value = {count}\nNew value = {count + 3}\n", said[17])
         self.assertIn(f"Old value = {count + 3}\nNew value = {count}\n", said[18])
+
+    def test_watchpoints_of_reads_both_ways(self):
+        self.of_tests("thumb", "thumb", seven="count")
+        said = self.said(self.target("thumb"), "break main", "continue", "delete", "rwatch total", "continue", "x/i $pc-4", "monitor tick", "continue",
+                         "monitor tick", "reverse-continue", "x/i $pc", "monitor tick", "reverse-continue", "monitor tick", "stepi", "monitor tick", "delete",
+                         "thread 2", "rwatch count", "continue", "x/i $pc-4", "continue", elf="thumb", elf7="seven")  # fmt: skip
+        told = "Thread 1 hit Hardware read watchpoint 2: total\n\nValue = {}\n"
+        self.assertIn(told.format(0), said[5])
+        self.assertRegex(said[6], r"<main\+\d+>:\tldr\t")
+        self.assertIn(told.format(12), said[8], "(0 + 1) + (1 + 1) + (2 + 1) and 0 + 2 + 4")
+        self.assertIn(told.format(12), said[10])
+        self.assertRegex(said[11], r"^=> 0x\w+ <main\+\d+>:\tldr\t")
+        self.assertIn(told.format(0), said[13])
+        ticks = [self.tick_of(said[it]) for it in (7, 9, 12, 14)]
+        self.assertEqual(ticks[2:], [ticks[1] - 1, ticks[0] - 1], "right before the loads")
+        self.assertIn(told.format(0), said[15])
+        self.assertEqual(self.tick_of(said[16]), ticks[0])
+        counts = [int(re.search(r"Thread 2 hit Hardware read watchpoint 3: count\n\nValue = (\d+)\n", said[it])[1]) for it in (20, 22)]
+        self.assertEqual((counts[0] % 3, counts[1] - counts[0]), (0, 3))
+        self.assertRegex(said[21], r"<more\+\d+>:\tldr\t")
+
+    def test_watchpoints_of_reads_and_writes(self):
+        self.of_tests("thumb", "thumb", seven="count")
+        said = self.said(self.target("thumb"), "break thumb_add", "continue", "delete", "awatch pair.a", "continue", "x/i $pc-2", "continue", "continue", "x/i $pc-2",
+                         "reverse-continue", "x/i $pc", "print pair.a", "delete", "awatch total", "continue", "x/i $pc-4", "continue", "x/i $pc-4",
+                         elf="thumb", elf7="seven")  # fmt: skip
+        name = "Thread 1 hit Hardware access (read/write) watchpoint {}\n\n"
+        self.assertIn(name.format("2: pair.a") + "Value = 1\n", said[5], "written as it was")
+        self.assertRegex(said[6], r"<thumb_add\+\d+>:\tstr\t")
+        self.assertIn(name.format("2: pair.a") + "Old value = 1\nNew value = 2\n", said[7])
+        self.assertIn(name.format("2: pair.a") + "Old value = 2\nNew value = 3\n", said[8])
+        self.assertIn(name.format("2: pair.a") + "Old value = 3\nNew value = 2\n", said[10])
+        self.assertRegex(said[11], r"^=> 0x\w+ <thumb_add\+\d+>:\tstr\t")
+        self.assertEqual(said[12], "$1 = 2\n")
+        self.assertIn(name.format("3: total") + "Value = 0\n", said[15])
+        self.assertRegex(said[16], r"<main\+\d+>:\tldr\t")
+        self.assertIn(name.format("3: total") + "Old value = 0\nNew value = 12\n", said[17])
+        self.assertRegex(said[18], r"<main\+\d+>:\tstr\t")
 
     def test_what_is_left_out_and_the_way_back(self):
         self.of_tests("left", "thumb", "-DSTOPS", seven="count")

@@ -3,6 +3,7 @@
 use crate::decks::{Deck, Stepped};
 use crate::engines::stand;
 use crate::goals::{IRQ_MODE, Inside, Stand};
+use crate::looks::{reaching, who_changes, work};
 use crate::points::Points;
 use crate::stops::{Cause, NO_MEMORY, Stop, TRAPPED, proc_of};
 use ds_base::{Due, Proc, Tick};
@@ -20,6 +21,8 @@ const MOST_ROUNDS: u64 = 0x100_0000_0000_0000;
 struct Found {
     at: u64,
     stop: Stop,
+    /// The tick at which watched bytes changed, where several actors stepped at it: which one it was is found out at the end.
+    shared: Option<Tick>,
 }
 
 /// What is looked for, and what was found last.
@@ -64,6 +67,7 @@ impl Search {
         let step = Some(Found {
             at: at.0,
             stop: Stop::signal(self.proc, TRAPPED),
+            shared: None,
         });
         self.any = step;
         if self.counts(before, after) {
@@ -73,7 +77,11 @@ impl Search {
 
     /// Takes a point.
     fn meets(&mut self, at: u64, stop: Stop) {
-        self.found = Some(Found { at, stop });
+        self.found = Some(Found {
+            at,
+            stop,
+            shared: None,
+        });
     }
 
     /// Where the way ends: where the processor stands in a handler at its beginning, that handler's steps count.
@@ -92,31 +100,67 @@ fn look_at<D: Deck>(deck: &D, points: &Points, search: &mut Search, proc: Proc, 
     }
 }
 
-/// Takes a step in a search for points.
-fn pass_points<D: Deck>(deck: &mut D, points: &mut Points, search: &mut Search, next: Due) -> bool {
-    look_at(deck, points, search, Proc::Nine, next.tick);
-    look_at(deck, points, search, Proc::Seven, next.tick);
-    if deck.step(next.tick) != Stepped::Taken {
+/// Looks whether any does.
+fn look<D: Deck>(deck: &D, points: &Points, search: &mut Search, at: Tick) {
+    if points.may_break(deck.pc(Proc::Nine), deck.pc(Proc::Seven)) {
+        look_at(deck, points, search, Proc::Nine, at);
+        look_at(deck, points, search, Proc::Seven, at);
+    }
+}
+
+/// The stop of the last processor whose step at a tick reaches watched bytes.
+fn reaching_any<D: Deck>(deck: &D, points: &Points, at: Tick) -> Option<Stop> {
+    if !points.watches.has_reached() {
+        return None;
+    }
+    match reaching(deck, points, Proc::Seven, at) {
+        Some(stop) => Some(stop),
+        None => reaching(deck, points, Proc::Nine, at),
+    }
+}
+
+/// Takes the steps of the next tick in a search for watchpoints. One is met right behind the tick.
+fn pass_watches<D: Deck>(
+    deck: &mut D,
+    points: &mut Points,
+    search: &mut Search,
+    next: Due,
+) -> bool {
+    let reaches = reaching_any(deck, points, next.tick);
+    let before = work(deck);
+    if deck.step_all(next.tick) != Stepped::Taken {
         return false;
     }
-    if !points.has_watches() {
-        return true;
+    let behind = next.tick.0.saturating_add(1);
+    if let Some(stop) = reaches {
+        search.meets(behind, stop);
     }
-    if let Some(place) = points.changed(deck) {
-        let proc = proc_of(next.rank, search.proc);
-        search.meets(
-            next.tick.0.saturating_add(1),
-            Stop::of(proc, Cause::Watch(place)),
-        );
+    if let Some(watched) = points.watches.changed(deck) {
+        let stop = Stop::of(proc_of(next.rank, search.proc), Cause::Watch(watched));
+        let is_shared = work(deck) > before.saturating_add(1);
+        search.found = Some(Found {
+            at: behind,
+            stop,
+            shared: if is_shared { Some(next.tick) } else { None },
+        });
     }
     true
 }
 
-/// Takes a step in a search for a processor's last step.
+/// Takes the steps of the next tick in a search for points.
+fn pass_points<D: Deck>(deck: &mut D, points: &mut Points, search: &mut Search, next: Due) -> bool {
+    look(deck, points, search, next.tick);
+    if !points.watches.is_empty() {
+        return pass_watches(deck, points, search, next);
+    }
+    deck.step_all(next.tick) == Stepped::Taken
+}
+
+/// Takes the steps of the next tick in a search for a processor's last step.
 fn pass_step<D: Deck>(deck: &mut D, search: &mut Search, at: Tick) -> bool {
     let before = stand(deck, search.proc);
     let steps = deck.steps(search.proc);
-    if deck.step(at) != Stepped::Taken {
+    if deck.step_all(at) != Stepped::Taken {
         return false;
     }
     if deck.steps(search.proc) != steps {
@@ -128,7 +172,7 @@ fn pass_step<D: Deck>(deck: &mut D, search: &mut Search, at: Tick) -> bool {
 /// Looks through the past from the present tick to a later one.
 fn look_through<D: Deck>(deck: &mut D, points: &mut Points, search: &mut Search, end: u64) {
     search.begin(stand(deck, search.proc));
-    points.look(deck);
+    points.watches.look(deck);
     for _ in 0..MOST_ROUNDS {
         let next = deck.next();
         if next.tick.0 >= end {
@@ -152,6 +196,19 @@ fn end_at<D: Deck>(deck: &mut D, at: u64, stop: Stop) -> Stop {
     } else {
         Stop::signal(stop.proc, NO_MEMORY)
     }
+}
+
+/// Goes where a search ends.
+fn end_search<D: Deck>(deck: &mut D, points: &mut Points, found: Found) -> Stop {
+    let mut stop = found.stop;
+    if let Some(tick) = found.shared {
+        if deck.go_to(tick) {
+            if let Some(rank) = who_changes(deck, points, tick) {
+                stop.proc = proc_of(rank, stop.proc);
+            }
+        }
+    }
+    end_at(deck, found.at, stop)
 }
 
 /// Looks through one piece of the past before a tick.
@@ -180,7 +237,7 @@ fn go_back<D: Deck>(deck: &mut D, points: &mut Points, search: &mut Search) -> S
             return Stop::signal(search.proc, NO_MEMORY);
         }
         if let Some(found) = search.ending(end == now) {
-            return end_at(deck, found.at, found.stop);
+            return end_search(deck, points, found);
         }
         if start == 0 {
             break;

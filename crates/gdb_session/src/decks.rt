@@ -1,5 +1,6 @@
 //! What a session looks at and moves: a machine with its past.
 
+use arm_core::Reach;
 use ds_base::{Due, LeftOut, Proc, Tick, Width};
 
 /// What one step came to.
@@ -47,8 +48,14 @@ pub trait Deck {
     /// What a processor would read at an address.
     fn looked(&self, proc: Proc, at: u32, width: Width) -> Option<u32>;
 
+    /// What a processor's next step reaches as data; None where it executes no instruction.
+    fn reached(&self, proc: Proc) -> Option<Reach>;
+
     /// The step of the actor that acts next, at its tick, which is told. Where it is left out, the deck has to go back before it goes on.
     fn step(&mut self, at: Tick) -> Stepped;
+
+    /// The steps of all actors at the tick at which the next one acts, which is told.
+    fn step_all(&mut self, at: Tick) -> Stepped;
 
     /// Goes on to a tick, which is its place in time then; or comes to a step that needs what is left out.
     fn run_to(&mut self, until: Tick) -> Stepped;

@@ -2,9 +2,11 @@
 
 use crate::decks::{Deck, Stepped};
 use crate::goals::{Aim, Inside, Stand, is_met};
+use crate::looks::{Told, look, who_changes, work};
 use crate::points::Points;
-use crate::stops::{Cause, NO_MEMORY, Stop, TRAPPED, proc_of};
+use crate::stops::{Cause, NO_MEMORY, Stop, TRAPPED, Watched, proc_of};
 use ds_base::{Due, LeftOut, Proc, Tick};
+use gdb_packets::PointKind;
 
 /// How many steps are taken between two looks whether a state is to be kept.
 const CHUNK_STEPS: u32 = 65_536;
@@ -14,40 +16,6 @@ const CHUNK_TICKS: u64 = 280_095;
 
 /// No run takes as many chunks.
 const MOST_CHUNKS: u64 = 0x100_0000_0000_0000;
-
-/// By each processor's count of steps, the one before which it was told to stand at a breakpoint.
-#[derive(Clone, Copy)]
-pub struct Told {
-    nine: Option<u64>,
-    seven: Option<u64>,
-}
-
-impl Told {
-    /// Nothing was told.
-    pub fn nothing() -> Told {
-        Told {
-            nine: None,
-            seven: None,
-        }
-    }
-
-    /// Whether it was told of a processor before a step.
-    pub fn is_told(self, proc: Proc, steps: u64) -> bool {
-        let told = match proc {
-            Proc::Nine => self.nine,
-            Proc::Seven => self.seven,
-        };
-        told == Some(steps)
-    }
-
-    /// Tells it of a processor before a step.
-    pub fn tell(&mut self, proc: Proc, steps: u64) {
-        match proc {
-            Proc::Nine => self.nine = Some(steps),
-            Proc::Seven => self.seven = Some(steps),
-        }
-    }
-}
 
 /// What another processor met while one stepped alone: the run goes back there before it goes on.
 #[derive(Clone, Copy)]
@@ -75,15 +43,17 @@ pub struct Run {
     pub end: u64,
     /// The signal with which it ends then.
     pub ending: u8,
-    /// What was told.
+    /// Before which breakpoints it was told to stand.
     pub told: Told,
+    /// Before which steps that reach watched bytes.
+    pub reached: Told,
     /// What the other processor met.
     pub met: Option<Met>,
 }
 
 impl Run {
     /// Takes note of a stop at a place in time. The answer is whether the run stops.
-    fn meets(&mut self, stop: Stop, place: u32, at: Tick) -> bool {
+    pub fn meets(&mut self, stop: Stop, place: u32, at: Tick) -> bool {
         if !self.is_alone || stop.proc == self.proc {
             return true;
         }
@@ -121,44 +91,6 @@ pub fn stand<D: Deck>(deck: &D, proc: Proc) -> Stand {
     Stand::of(deck.pc(proc), deck.cpsr(proc))
 }
 
-/// Whether a processor stands at a breakpoint at a tick, of which it wasn't told. (Its address is asked first, since that is read at once.)
-fn stands_at_break<D: Deck>(deck: &D, points: &Points, run: &Run, proc: Proc, at: Tick) -> bool {
-    let pc = deck.pc(proc);
-    let is_point = if run.is_alone && proc != run.proc {
-        points.broke_at(pc)
-    } else {
-        points.breaks_at(pc)
-    };
-    is_point && deck.is_due(proc, at) && !run.told.is_told(proc, deck.steps(proc))
-}
-
-/// Looks whether a processor stands at a breakpoint.
-fn look_at<D: Deck>(
-    deck: &D,
-    points: &Points,
-    run: &mut Run,
-    proc: Proc,
-    at: Tick,
-) -> Option<Stop> {
-    if !stands_at_break(deck, points, run, proc, at) {
-        return None;
-    }
-    let stop = Stop::of(proc, Cause::Break);
-    if run.meets(stop, deck.pc(proc), at) {
-        run.told.tell(proc, deck.steps(proc));
-        return Some(stop);
-    }
-    None
-}
-
-/// Looks whether any processor does.
-fn look<D: Deck>(deck: &D, points: &Points, run: &mut Run, at: Tick) -> Option<Stop> {
-    match look_at(deck, points, run, Proc::Nine, at) {
-        Some(stop) => Some(stop),
-        None => look_at(deck, points, run, Proc::Seven, at),
-    }
-}
-
 /// The stop at a step that is left out.
 fn left_stop(left: LeftOut, proc: Proc, is_alone: bool) -> Stop {
     let own = if is_alone {
@@ -169,11 +101,11 @@ fn left_stop(left: LeftOut, proc: Proc, is_alone: bool) -> Stop {
     Stop::of(own, Cause::Left(left))
 }
 
-/// The stop at a change of bytes from an address on, by the actor of a rank.
-fn watch_stop(rank: u8, place: u32, proc: Proc) -> Stop {
+/// The stop at a change of watched bytes by the actor of a rank.
+fn watch_stop(rank: u8, watched: Watched, proc: Proc) -> Stop {
     Stop {
         proc: proc_of(rank, proc),
-        cause: Cause::Watch(place),
+        cause: Cause::Watch(watched),
         actor: if rank < 22 { Some(rank) } else { None },
     }
 }
@@ -187,32 +119,75 @@ fn stop_at<D: Deck>(deck: &mut D, at: Tick, stop: Stop) -> Stop {
     }
 }
 
-/// Takes the step of the next actor. Where the run is to go on and on nobody asks which processor took it.
-fn take<D: Deck>(deck: &mut D, points: &mut Points, run: &mut Run, next: Due) -> Option<Stop> {
-    let stepped = if run.aim == Aim::On {
-        deck.step(next.tick)
-    } else {
-        take_counted(deck, run, next.tick)
-    };
-    if let Stepped::Left(left) = stepped {
-        return Some(stop_at(deck, left.tick, left_stop(left, run.proc, run.is_alone)));
+/// The stop at a step that is left out, at its tick.
+fn stop_left<D: Deck>(deck: &mut D, left: LeftOut, run: &Run) -> Stop {
+    stop_at(deck, left.tick, left_stop(left, run.proc, run.is_alone))
+}
+
+/// Takes the steps of the next tick. Where the run is to go on and on nobody asks which processor took one.
+fn take_steps<D: Deck>(deck: &mut D, run: &mut Run, at: Tick) -> Stepped {
+    if run.aim == Aim::On {
+        return deck.step_all(at);
     }
-    if !points.has_watches() {
+    take_counted(deck, run, at)
+}
+
+/// The rank of the actor that changed watched bytes at a tick, by the first one at it and how many steps all took before. Where several stepped, they
+/// step again one by one.
+fn who_changed<D: Deck>(deck: &mut D, points: &mut Points, next: Due, before: u64) -> u8 {
+    if work(deck) == before.saturating_add(1) || !deck.go_to(next.tick) {
+        return next.rank;
+    }
+    who_changes(deck, points, next.tick).unwrap_or(next.rank)
+}
+
+/// Whether it was told before the step that watched bytes changed by that it reaches them.
+fn was_told<D: Deck>(deck: &D, run: &Run, watched: Watched, stop: Stop) -> bool {
+    let before = deck.steps(stop.proc).saturating_sub(1);
+    watched.kind == PointKind::Access
+        && stop.actor.is_none()
+        && run.reached.is_told(stop.proc, before)
+}
+
+/// Takes the steps of the next tick, and looks at what they change that is watched.
+fn take_watched<D: Deck>(
+    deck: &mut D,
+    points: &mut Points,
+    run: &mut Run,
+    next: Due,
+) -> Option<Stop> {
+    let before = work(deck);
+    if let Stepped::Left(left) = take_steps(deck, run, next.tick) {
+        return Some(stop_left(deck, left, run));
+    }
+    let watched = points.watches.changed(deck)?;
+    let rank = who_changed(deck, points, next, before);
+    let stop = watch_stop(rank, watched, run.proc);
+    if was_told(deck, run, watched, stop) {
         return None;
     }
-    let place = points.changed(deck)?;
-    let stop = watch_stop(next.rank, place, run.proc);
-    if run.meets(stop, place, next.tick) {
+    if run.meets(stop, watched.at, next.tick) {
         return Some(stop_at(deck, next.tick, stop));
     }
     None
 }
 
-/// Takes a step of a run that ends with one of its processor's.
+/// Takes the steps of the next tick.
+fn take<D: Deck>(deck: &mut D, points: &mut Points, run: &mut Run, next: Due) -> Option<Stop> {
+    if !points.watches.is_empty() {
+        return take_watched(deck, points, run, next);
+    }
+    match take_steps(deck, run, next.tick) {
+        Stepped::Taken => None,
+        Stepped::Left(left) => Some(stop_left(deck, left, run)),
+    }
+}
+
+/// Takes the steps of the next tick in a run that ends with one of its processor's.
 fn take_counted<D: Deck>(deck: &mut D, run: &mut Run, at: Tick) -> Stepped {
     let before = stand(deck, run.proc);
     let steps = deck.steps(run.proc);
-    let stepped = deck.step(at);
+    let stepped = deck.step_all(at);
     if stepped == Stepped::Taken && deck.steps(run.proc) != steps {
         run.takes(before, stand(deck, run.proc), at);
     }
@@ -223,7 +198,7 @@ fn take_counted<D: Deck>(deck: &mut D, run: &mut Run, at: Tick) -> Stepped {
 fn arrive<D: Deck>(deck: &mut D, run: &Run) -> Stop {
     match deck.run_to(Tick(run.end)) {
         Stepped::Taken => Stop::signal(run.proc, run.ending),
-        Stepped::Left(left) => stop_at(deck, left.tick, left_stop(left, run.proc, run.is_alone)),
+        Stepped::Left(left) => stop_left(deck, left, run),
     }
 }
 
@@ -260,18 +235,14 @@ fn run_chunk<D: Deck>(deck: &mut D, run: &Run) -> Gone {
     }
     match deck.run_to(Tick(until)) {
         Stepped::Taken => Gone::On,
-        Stepped::Left(left) => Gone::Stop(stop_at(
-            deck,
-            left.tick,
-            left_stop(left, run.proc, run.is_alone),
-        )),
+        Stepped::Left(left) => Gone::Stop(stop_left(deck, left, run)),
     }
 }
 
 /// A run, up to its stop.
 pub fn go<D: Deck>(deck: &mut D, points: &mut Points, run: &mut Run) -> Stop {
     let is_free = run.aim == Aim::On && points.is_empty();
-    points.look(deck);
+    points.watches.look(deck);
     for _ in 0..MOST_CHUNKS {
         let gone = if is_free {
             run_chunk(deck, run)

@@ -7,7 +7,8 @@
 //! - `Deck` is what a session looks at and moves; `Tape` is the one of a console: it keeps a state each 500,000 steps and events, 64 at most, of
 //!   which every other one goes when there are too many. A way back takes the last state before it and runs from there.
 //! - A breakpoint stops before the instruction at its address, at the tick at which the processor's step is due. Bytes that are watched are compared
-//!   after each step; the run stops at the tick of the step that changed them, and goes back to just behind it on the way back.
+//!   after the steps of each tick; the run stops at the tick of the step that changed them, and goes back to just behind it on the way back. Where
+//!   reads are watched for, what each step is going to reach is asked before it, and the run stops there.
 //! - A step may be answered for one processor alone. Both run all the same; what the other one met is kept, and the next run begins there.
 //! - A run is answered after a slice of ticks by SIGALRM, with which gdb goes on by itself, so that an interrupt is heard.
 //!
@@ -24,6 +25,7 @@ mod descriptions;
 mod engines;
 mod goals;
 mod hearing;
+mod looks;
 mod points;
 mod registers;
 mod replies;
@@ -33,6 +35,7 @@ mod serving;
 mod sessions;
 mod stops;
 mod tapes;
+mod watches;
 
 pub use commands::Outlet;
 pub use decks::{Deck, Stepped};

@@ -1,55 +1,26 @@
 //! Breakpoints and watchpoints.
 
-use crate::decks::Deck;
-use ds_base::{Proc, Width};
+use crate::stops::Watched;
+use crate::watches::Watches;
+use ds_base::Proc;
 use gdb_packets::{Point, PointKind};
 use std::alloc::{AllocError, Global};
-
-/// The most bytes that a watchpoint watches.
-const MOST_LENGTH: u32 = 8;
-
-/// Bytes that are watched, and what they were when last looked at.
-#[derive(Clone, Copy, PartialEq, Eq)]
-pub struct Watch {
-    /// Whose map the address is of.
-    pub proc: Proc,
-    /// The first address.
-    pub at: u32,
-    /// How many bytes: 8 at most.
-    pub length: u32,
-    /// What they were, the first as the least significant.
-    pub value: u64,
-}
 
 /// The points at which a run stops.
 #[derive(Drop)]
 pub struct Points {
     breaks: Vec<u32>,
     gone: Vec<u32>,
-    watches: Vec<Watch>,
+    /// A bit for each of 64 kinds of address, of those at which a breakpoint stands or was taken away: most addresses are told by it alone.
+    kinds: u64,
+    /// The watchpoints.
+    pub watches: Watches,
 }
 
-/// A byte at an address; 0 where nothing answers.
-fn byte_at<D: Deck>(deck: &D, proc: Proc, at: u32) -> u64 {
-    match deck.looked(proc, at, Width::Byte) {
-        Some(byte) => byte as u64,
-        None => 0,
-    }
-}
-
-/// Bytes from an address on, the first as the least significant.
-fn bytes_at<D: Deck>(deck: &D, proc: Proc, at: u32, length: u32) -> u64 {
-    if length == 4 && at % 4 == 0 {
-        return match deck.looked(proc, at, Width::Word) {
-            Some(word) => word as u64,
-            None => 0,
-        };
-    }
-    let mut value = 0;
-    for place in 0..length.min(MOST_LENGTH) {
-        value |= byte_at(deck, proc, at.wrapping_add(place)) << (8 * place);
-    }
-    value
+/// The bit of an address's kind: code is of halves at least, and 64 of them after one another differ.
+#[inline(always)]
+fn kind_of(at: u32) -> u64 {
+    1 << ((at >> 1) % 64)
 }
 
 /// Takes a number out of a list, wherever it stands, and says whether it stood there.
@@ -69,7 +40,8 @@ impl Points {
         Points {
             breaks: Vec::new(alloc),
             gone: Vec::new(alloc),
-            watches: Vec::new(alloc),
+            kinds: 0,
+            watches: Watches::new(alloc),
         }
     }
 
@@ -78,9 +50,10 @@ impl Points {
         self.breaks.is_empty() && self.watches.is_empty()
     }
 
-    /// Whether bytes are watched.
-    pub fn has_watches(&self) -> bool {
-        !self.watches.is_empty()
+    /// Whether a breakpoint may stand at one of two addresses, or may have been taken away there.
+    #[inline(always)]
+    pub fn may_break(&self, one: u32, other: u32) -> bool {
+        self.kinds & (kind_of(one) | kind_of(other)) != 0
     }
 
     /// Whether a breakpoint stands at an address.
@@ -93,22 +66,16 @@ impl Points {
         self.breaks.contains(&at) || self.gone.contains(&at)
     }
 
-    /// Whether bytes are watched from an address on.
-    pub fn watches_at(&self, at: u32) -> bool {
-        for watch in &self.watches {
-            if watch.at == at {
-                return true;
-            }
-        }
-        false
+    /// Whether such bytes are watched.
+    pub fn watches(&self, watched: Watched) -> bool {
+        self.watches.has(watched)
     }
 
-    /// Puts a point. The answer is whether there is such a kind.
+    /// Puts a point. The answer is whether it can be put.
     pub fn insert(&mut self, point: Point, proc: Proc) -> Result<bool, AllocError> {
         match point.kind {
             PointKind::Break => self.insert_break(point.at),
-            PointKind::Write => self.insert_watch(point, proc),
-            PointKind::Read | PointKind::Access => Ok(false),
+            _ => self.watches.insert(point, proc),
         }
     }
 
@@ -116,21 +83,8 @@ impl Points {
     fn insert_break(&mut self, at: u32) -> Result<bool, AllocError> {
         if !self.breaks_at(at) {
             self.breaks.push(at)?;
+            self.kinds |= kind_of(at);
         }
-        Ok(true)
-    }
-
-    /// Puts a watchpoint.
-    fn insert_watch(&mut self, point: Point, proc: Proc) -> Result<bool, AllocError> {
-        if point.length > MOST_LENGTH {
-            return Ok(false);
-        }
-        self.watches.push(Watch {
-            proc,
-            at: point.at,
-            length: point.length,
-            value: 0,
-        })?;
         Ok(true)
     }
 
@@ -141,51 +95,18 @@ impl Points {
                 if take_out(&mut self.breaks, point.at) {
                     self.gone.push(point.at)?;
                 }
-                Ok(())
             }
-            PointKind::Write => {
-                self.remove_watch(point);
-                Ok(())
-            }
-            PointKind::Read | PointKind::Access => Ok(()),
+            _ => self.watches.remove(point),
         }
-    }
-
-    /// Takes a watchpoint away.
-    fn remove_watch(&mut self, point: Point) {
-        for place in 0..self.watches.len() {
-            let watch = self.watches[place];
-            if watch.at == point.at && watch.length == point.length {
-                let _gone = self.watches.remove(place);
-                return;
-            }
-        }
+        Ok(())
     }
 
     /// Forgets the breakpoints that were taken away.
     pub fn forget(&mut self) {
         self.gone.clear();
-    }
-
-    /// Looks at what is watched, for later.
-    pub fn look<D: Deck>(&mut self, deck: &D) {
-        for place in 0..self.watches.len() {
-            let watch = self.watches[place];
-            self.watches[place].value = bytes_at(deck, watch.proc, watch.at, watch.length);
+        self.kinds = 0;
+        for at in &self.breaks {
+            self.kinds |= kind_of(*at);
         }
-    }
-
-    /// The address from which bytes are watched that have changed since they were looked at, which they are now.
-    pub fn changed<D: Deck>(&mut self, deck: &D) -> Option<u32> {
-        let mut found = None;
-        for place in 0..self.watches.len() {
-            let watch = self.watches[place];
-            let value = bytes_at(deck, watch.proc, watch.at, watch.length);
-            if value != watch.value {
-                self.watches[place].value = value;
-                found = Some(watch.at);
-            }
-        }
-        found
     }
 }

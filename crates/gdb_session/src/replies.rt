@@ -5,7 +5,7 @@ use crate::registers::register;
 use crate::sessions::Session;
 use crate::stops::{Cause, Stop};
 use ds_base::{LeftOut, Proc, Width};
-use gdb_packets::Answer;
+use gdb_packets::{Answer, PointKind};
 use nds_answers::name_of_kind;
 use std::alloc::{AllocError, Global};
 
@@ -59,15 +59,24 @@ fn put_register(into: &mut Answer, all: &[u32; 37], number: u32) -> Result<(), A
     }
 }
 
+/// What a stop by a watchpoint is called. (The GDB manual, "Stop Reply Packets".)
+fn name_of_watch(kind: PointKind) -> &'static [u8] {
+    match kind {
+        PointKind::Read => b"rwatch:",
+        PointKind::Access => b"awatch:",
+        _ => b"watch:",
+    }
+}
+
 /// Puts why the run stands, but for the signal.
 fn put_cause(into: &mut Answer, cause: Cause) -> Result<(), AllocError> {
     match cause {
         Cause::Signal(_) | Cause::Left(_) => Ok(()),
         Cause::Break => into.put(b"swbreak:;"),
         Cause::Begin => into.put(b"replaylog:begin;"),
-        Cause::Watch(at) => {
-            into.put(b"watch:")?;
-            into.put_address(at)?;
+        Cause::Watch(watched) => {
+            into.put(name_of_watch(watched.kind))?;
+            into.put_address(watched.at)?;
             into.put(b";")
         }
     }

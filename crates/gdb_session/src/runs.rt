@@ -54,6 +54,11 @@ pub fn step_console(console: &mut Console, at: Tick) -> Stepped {
     }
 }
 
+/// The steps of all actors at the tick at which the next one acts.
+pub fn step_all_of(console: &mut Console, at: Tick) -> Stepped {
+    run_console(console, Tick(at.0.min(MOST_TICK - 1) + 1))
+}
+
 /// Runs a console to a tick.
 pub fn run_console(console: &mut Console, until: Tick) -> Stepped {
     let until = Tick(until.0.min(MOST_TICK));

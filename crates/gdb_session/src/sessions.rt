@@ -2,8 +2,9 @@
 
 use crate::backs::back;
 use crate::decks::Deck;
-use crate::engines::{Met, Run, Told, go};
+use crate::engines::{Met, Run, go};
 use crate::goals::{Aim, Inside};
+use crate::looks::{Told, kept_meeting};
 use crate::points::Points;
 use crate::stops::{Cause, INTERRUPTED, SLICE_OVER, Stop, TRAPPED};
 use ds_base::{Proc, Tick};
@@ -27,8 +28,10 @@ pub struct Session {
     pub stop: Stop,
     /// The points.
     pub points: Points,
-    /// What was told.
+    /// Before which breakpoints it was told to stand.
     told: Told,
+    /// Before which steps that reach watched bytes.
+    reached: Told,
     /// What the other processor met while one stepped alone.
     met: Option<Met>,
     /// Where the next run stops in any case.
@@ -50,6 +53,7 @@ impl Session {
             stop: Stop::signal(Proc::Nine, TRAPPED),
             points: Points::new(alloc),
             told: Told::nothing(),
+            reached: Told::nothing(),
             met: None,
             until: None,
             slice: SLICE_TICKS,
@@ -71,6 +75,12 @@ impl Session {
     /// Chooses the one that goes on.
     pub fn choose_aim(&mut self, proc: Option<Proc>) {
         self.aim = proc;
+    }
+
+    /// Nothing was told from here on: the place in time is another.
+    fn forget(&mut self) {
+        self.told = Told::nothing();
+        self.reached = Told::nothing();
     }
 
     /// Takes note of a stop.
@@ -114,6 +124,7 @@ impl Session {
             end: now.saturating_add(ticks),
             ending,
             told: self.told,
+            reached: self.reached,
             met: None,
         }
     }
@@ -129,30 +140,23 @@ fn bound(run: &mut Run, until: Option<u64>) {
     }
 }
 
-/// What the other processor met while one stepped alone, where its point still stands.
-fn kept_meeting(met: Option<Met>, points: &Points) -> Option<Met> {
-    let met = met?;
-    let stands = match met.stop.cause {
-        Cause::Break => points.breaks_at(met.place),
-        Cause::Watch(place) => points.watches_at(place),
-        _ => false,
-    };
-    if stands { Some(met) } else { None }
-}
-
 /// Goes back to what the other processor met.
 fn go_to_meeting<D: Deck>(session: &mut Session, deck: &mut D, met: Met) -> Stop {
     if !deck.go_to(Tick(met.at)) {
         return Stop::signal(met.stop.proc, crate::stops::NO_MEMORY);
     }
-    session.told.tell(met.stop.proc, deck.steps(met.stop.proc));
+    let steps = deck.steps(met.stop.proc);
+    match met.stop.cause {
+        Cause::Watch(_) => session.reached.tell(met.stop.proc, steps),
+        _ => session.told.tell(met.stop.proc, steps),
+    }
     met.stop
 }
 
 /// Goes to the tick that the user gave, which isn't after the present one.
 fn go_to_until<D: Deck>(session: &mut Session, deck: &mut D, until: u64) -> Stop {
     session.until = None;
-    session.told = Told::nothing();
+    session.forget();
     if deck.go_to(Tick(until)) {
         Stop::signal(session.stop.proc, TRAPPED)
     } else {
@@ -170,6 +174,7 @@ fn run_from_here<D: Deck>(session: &mut Session, deck: &mut D, going: Going) -> 
     run.told.tell(run.proc, deck.steps(run.proc));
     let stop = go(deck, &mut session.points, &mut run);
     session.told = run.told;
+    session.reached = run.reached;
     if run.met.is_some() {
         session.met = run.met;
     }
@@ -214,6 +219,6 @@ pub fn go_back<D: Deck>(session: &mut Session, deck: &mut D, is_step: bool) {
     let proc = session.aimed_at();
     let stop = back(deck, &mut session.points, proc, is_step, session.shows_irq);
     session.met = None;
-    session.told = Told::nothing();
+    session.forget();
     session.stand(stop);
 }

@@ -1,6 +1,16 @@
 //! Why a run stands.
 
 use ds_base::{LeftOut, Proc};
+use gdb_packets::PointKind;
+
+/// Bytes that are watched.
+#[derive(Clone, Copy, PartialEq, Eq)]
+pub struct Watched {
+    /// Where they stop a run: where they change, are read, or are reached at all.
+    pub kind: PointKind,
+    /// The first address of the piece of them that stopped it.
+    pub at: u32,
+}
 
 /// The causes of a stop.
 #[derive(Clone, Copy, PartialEq, Eq)]
@@ -9,8 +19,8 @@ pub enum Cause {
     Signal(u8),
     /// A breakpoint.
     Break,
-    /// Bytes from an address on changed.
-    Watch(u32),
+    /// Watched bytes changed, or are reached by the next step.
+    Watch(Watched),
     /// The beginning, on a way back.
     Begin,
     /// What the next step needs is left out.

@@ -3,8 +3,9 @@
 ghost use Rattle.std.specs.Prelude.{◌<◌};
 
 use crate::decks::{Deck, Stepped};
-use crate::runs::{copy_keys, is_over, run_console, save_console, step_console};
+use crate::runs::{copy_keys, is_over, run_console, save_console, step_all_of, step_console};
 use crate::saves::Saves;
+use arm_core::Reach;
 use ds_base::{Due, Keys, Proc, Tick, Width};
 use ds_header::Cart;
 use run_ahead::Console;
@@ -109,6 +110,14 @@ impl Deck for Tape {
 
     fn looked(&self, proc: Proc, at: u32, width: Width) -> Option<u32> {
         self.console.looked(proc, at, width)
+    }
+
+    fn reached(&self, proc: Proc) -> Option<Reach> {
+        self.console.reached(proc)
+    }
+
+    fn step_all(&mut self, at: Tick) -> Stepped {
+        step_all_of(&mut self.console, at)
     }
 
     fn step(&mut self, at: Tick) -> Stepped {

@@ -1,8 +1,14 @@
 //! The program: gdb's remote protocol on standard input and output, over a console with a cartridge and a key script.
 //!
-//! It is trusted, and has no contract of its own, so no wrong bodies. It ends with status 0 when gdb goes or its input ends, and as `nds` does where
-//! a file can't be read or isn't accepted; with 12 for want of memory, 5 where its output can't be written, 13 where the system can't give the
-//! words.
+//! It is trusted, and has no contract of its own: its wrong bodies are unsafe, or don't end. It ends with status 0 when gdb goes or its input ends,
+//! and as `nds` does where a file can't be read or isn't accepted; with 12 for want of memory, 5 where its output can't be written, 13 where the
+//! system can't give the words.
+//!
+//! A session is kept in `stdin` and `stdout`. By hand, from gdb's manual (appendix "GDB Remote Serial Protocol") and the cartridge's code: each sum;
+//! the plus, the minus to a wrong sum, the answer sent again to a minus, and no signs after QStartNoAckMode; the 64 bytes of the description behind
+//! their `m`; the threads, and what is said of the first; the bytes at 2000000h; every OK, E01, E0e and empty answer; why each run stopped, by
+//! which thread and where: before 20003ACh at the breakpoint, right behind it after a step, before 2000208h at the read of 2000394h, before the store
+//! of 2000403h at 20001ECh and behind the one of 2000400h at 2000204h. Only kept: ticks, counts of steps, and registers but r15.
 #![tactic(auto)]
 
 use ds_io::{DiskShelf, Sink, StdSink, put_all};

@@ -13,8 +13,8 @@ pub record IsFileRead (files : Option (List Named)) (name : List ℕ) (limit : �
   pub read : IfSome files (λ fs. file_of fs name ≡ Some bytes)
   pub short : length bytes ≤ limit
 
--- when each refusal of a file comes: no file has the name, or the one that has it has more bytes than the limit; `rose` says that the shelf's count of
--- faults rose, and want of memory is free
+-- when each refusal of a file comes: no file has the name, or the one that has it has more bytes than the limit; `rose` says that the shelf's count
+-- of faults rose, and want of memory is free
 abbrev pub Refuses : Option (List Named) → Type 0 → List ℕ → ℕ → Status → Type 0
 Refuses files rose name limit NoFile = IfSome files (λ fs. file_of fs name ≡ None)
 Refuses files rose name limit ReadFault = rose

@@ -4,7 +4,7 @@ use Rattle.run_ahead.proofs.consoles.Console.new.Goals as goal
 pub invariant_of-result : goal.invariant_of-result
 invariant_of-result c =
     let running = subst (IsRunning 0) (sym c.insert.ensures) c.in_ok-machine.ensures.running in
-    (counts_add_up 0 c.insert.new.machine running, omega arith, refl, λ none. running, omega arith)
+    (counts_add_up 0 c.insert.new.self running, omega arith, refl, λ none. running, omega arith)
 
 pub returns-clause-within : goal.returns-clause-within
 returns-clause-within c =

@@ -1,4 +1,4 @@
-use Rattle.run_ahead.proofs.Words.{◌≤◌, refl, sym, subst, arith, IsRunning, MachineState, counts_of, counts_add_up}
+use Rattle.run_ahead.proofs.Words.{ℕ, List, ◌≤◌, refl, sym, subst, arith, IsRunning, MachineState, with_file, counts_of, counts_add_up}
 use Rattle.run_ahead.proofs.consoles.Console.resume.Goals as goal
 
 pub invariant_of-result : goal.invariant_of-result
@@ -7,6 +7,7 @@ invariant_of-result c =
     let goes = c.in_ok-taken.ensures.goes in
     let below = goes.0 in
     let early = c.requires.early in
-    let running = subst (λ (m : MachineState). IsRunning taken.head.at m) (sym c.insert.ensures) goes.1 in
+    let runs = subst (λ (file : List ℕ). IsRunning taken.head.at (with_file file taken.machine)) c.bytes.ensures.bytes goes.1 in
+    let running = subst (IsRunning taken.head.at) (sym c.insert.ensures) runs in
     let turns = subst (λ (m : MachineState). taken.head.turns ≤ counts_of m) (sym c.insert.ensures) goes.2 in
-    (counts_add_up taken.head.at c.insert.new.machine running, omega (arith, below, early), refl, λ none. running, turns)
+    (counts_add_up taken.head.at c.insert.new.self running, omega (arith, below, early), refl, λ none. running, turns)

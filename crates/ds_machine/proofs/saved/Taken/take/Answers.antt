@@ -19,7 +19,7 @@ returns-in_err-gx c = λ keys nine seven events.
     let asked : c.asked_of-asked.result ≡ asked_of c.args.at.0 p.nine c.in_ok-units.units.irq_of_nine c.in_ok-channels.channels.nine = search rules in
     let front = front_read c.args.at.0 _ _ _ _ _ p _ _ _ _ _ c.in_ok-processors.ensures c.in_ok-memories.ensures c.in_ok-units.ensures c.in_ok-channels.ensures halted late in
     let fails = gx_fails (around_of c.args.file.now keys nine seven events) c.args.at.0 _ p _ _ _ _ front _ _ _ c.in_ok-video.ensures _ asked c.in_err-gx.ensures in
-    search (rules, fails)
+    fails_on _ _ _ _ _ c.from_residual-in_err-gx.ensures.1 fails
 
 pub returns-in_err-card : goal.returns-in_err-card
 returns-in_err-card c = λ keys nine seven events.

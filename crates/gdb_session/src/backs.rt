@@ -1,5 +1,7 @@
 //! Ways back: a piece of the past is run again, and the last thing in it that was looked for is where the way ends.
 
+ghost use Rattle.std.specs.Prelude.{◌≡◌};
+
 use crate::decks::{Deck, Stepped};
 use crate::engines::stand;
 use crate::goals::{IRQ_MODE, Inside, Stand};
@@ -120,12 +122,9 @@ fn reaching_any<D: Deck>(deck: &D, points: &Points, at: Tick) -> Option<Stop> {
 }
 
 /// Takes the steps of the next tick in a search for watchpoints. One is met right behind the tick.
-fn pass_watches<D: Deck>(
-    deck: &mut D,
-    points: &mut Points,
-    search: &mut Search,
-    next: Due,
-) -> bool {
+fn pass_watches<D: Deck>(deck: &mut D, points: &mut Points, search: &mut Search, next: Due) -> bool
+    ensures boot { D.boot deck.new ≡ D.boot deck.old }
+{
     let reaches = reaching_any(deck, points, next.tick);
     let before = work(deck);
     if deck.step_all(next.tick) != Stepped::Taken {
@@ -148,7 +147,9 @@ fn pass_watches<D: Deck>(
 }
 
 /// Takes the steps of the next tick in a search for points.
-fn pass_points<D: Deck>(deck: &mut D, points: &mut Points, search: &mut Search, next: Due) -> bool {
+fn pass_points<D: Deck>(deck: &mut D, points: &mut Points, search: &mut Search, next: Due) -> bool
+    ensures boot { D.boot deck.new ≡ D.boot deck.old }
+{
     look(deck, points, search, next.tick);
     if !points.watches.is_empty() {
         return pass_watches(deck, points, search, next);
@@ -157,7 +158,9 @@ fn pass_points<D: Deck>(deck: &mut D, points: &mut Points, search: &mut Search, 
 }
 
 /// Takes the steps of the next tick in a search for a processor's last step.
-fn pass_step<D: Deck>(deck: &mut D, search: &mut Search, at: Tick) -> bool {
+fn pass_step<D: Deck>(deck: &mut D, search: &mut Search, at: Tick) -> bool
+    ensures boot { D.boot deck.new ≡ D.boot deck.old }
+{
     let before = stand(deck, search.proc);
     let steps = deck.steps(search.proc);
     if deck.step_all(at) != Stepped::Taken {
@@ -170,10 +173,12 @@ fn pass_step<D: Deck>(deck: &mut D, search: &mut Search, at: Tick) -> bool {
 }
 
 /// Looks through the past from the present tick to a later one.
-fn look_through<D: Deck>(deck: &mut D, points: &mut Points, search: &mut Search, end: u64) {
+fn look_through<D: Deck>(deck: &mut D, points: &mut Points, search: &mut Search, end: u64)
+    ensures boot { D.boot deck.new ≡ D.boot deck.old }
+{
     search.begin(stand(deck, search.proc));
     points.watches.look(deck);
-    for _ in 0..MOST_ROUNDS {
+    'rounds: for _ in 0..MOST_ROUNDS {
         let next = deck.next();
         if next.tick.0 >= end {
             return;
@@ -190,7 +195,9 @@ fn look_through<D: Deck>(deck: &mut D, points: &mut Points, search: &mut Search,
 }
 
 /// Goes where a way back ends.
-fn end_at<D: Deck>(deck: &mut D, at: u64, stop: Stop) -> Stop {
+fn end_at<D: Deck>(deck: &mut D, at: u64, stop: Stop) -> Stop
+    ensures boot { D.boot deck.new ≡ D.boot deck.old }
+{
     if deck.go_to(Tick(at)) {
         stop
     } else {
@@ -199,7 +206,9 @@ fn end_at<D: Deck>(deck: &mut D, at: u64, stop: Stop) -> Stop {
 }
 
 /// Goes where a search ends.
-fn end_search<D: Deck>(deck: &mut D, points: &mut Points, found: Found) -> Stop {
+fn end_search<D: Deck>(deck: &mut D, points: &mut Points, found: Found) -> Stop
+    ensures boot { D.boot deck.new ≡ D.boot deck.old }
+{
     let mut stop = found.stop;
     if let Some(tick) = found.shared {
         if deck.go_to(tick) {
@@ -218,7 +227,9 @@ fn look_before<D: Deck>(
     search: &mut Search,
     start: u64,
     end: u64,
-) -> bool {
+) -> bool
+    ensures boot { D.boot deck.new ≡ D.boot deck.old }
+{
     if !deck.go_to(Tick(start)) {
         return false;
     }
@@ -227,11 +238,13 @@ fn look_before<D: Deck>(
 }
 
 /// Goes back by a search.
-fn go_back<D: Deck>(deck: &mut D, points: &mut Points, search: &mut Search) -> Stop {
+fn go_back<D: Deck>(deck: &mut D, points: &mut Points, search: &mut Search) -> Stop
+    ensures boot { D.boot deck.new ≡ D.boot deck.old }
+{
     let now = deck.now().0;
     let mut end = now;
     let mut ticks = FIRST_TICKS;
-    for _ in 0..MOST_ROUNDS {
+    'ways: for _ in 0..MOST_ROUNDS {
         let start = end.saturating_sub(ticks);
         if !look_before(deck, points, search, start, end) {
             return Stop::signal(search.proc, NO_MEMORY);
@@ -255,7 +268,9 @@ pub fn back<D: Deck>(
     proc: Proc,
     is_step: bool,
     is_shown: bool,
-) -> Stop {
+) -> Stop
+    ensures boot { D.boot deck.new ≡ D.boot deck.old }
+{
     if !is_step && points.is_empty() {
         return end_at(deck, 0, Stop::of(proc, Cause::Begin));
     }

@@ -1,5 +1,7 @@
 //! Commands of the user's: what stands behind `monitor`.
 
+ghost use Rattle.std.specs.Prelude.{◌≡◌};
+
 use crate::decks::Deck;
 use crate::sessions::Session;
 use ds_base::Tick;
@@ -179,7 +181,9 @@ fn write_state<D: Deck, F: Outlet>(
     files: &mut F,
     into: &mut Answer,
     text: &[u8],
-) -> Result<(), AllocError> {
+) -> Result<(), AllocError>
+    ensures boot { D.boot deck.new ≡ D.boot deck.old }
+{
     let Some(name) = name_of(text) else {
         return into.put(b"state FILE: a name, please\n");
     };
@@ -252,7 +256,9 @@ fn carry_out<D: Deck, F: Outlet>(
     files: &mut F,
     into: &mut Answer,
     text: &[u8],
-) -> Result<(), AllocError> {
+) -> Result<(), AllocError>
+    ensures boot { D.boot deck.new ≡ D.boot deck.old }
+{
     let (name, rest) = first_word(text);
     match name {
         b"tick" => put_tick(into, deck),
@@ -271,7 +277,9 @@ pub fn command<D: Deck, F: Outlet>(
     files: &mut F,
     into: &mut Answer,
     digits: &[u8],
-) -> Result<(), AllocError> {
+) -> Result<(), AllocError>
+    ensures boot { D.boot deck.new ≡ D.boot deck.old }
+{
     let text = bytes_of(alloc, digits)?;
     let mut answer = Answer::new(alloc);
     carry_out(alloc, session, deck, files, &mut answer, text.as_slice())?;

@@ -1,5 +1,8 @@
 //! What a session looks at and moves: a machine with its past.
 
+ghost use Rattle.std.specs.Prelude.{◌≡◌};
+ghost use Rattle.ds_machine.specs.States.{MachineState};
+
 use arm_core::Reach;
 use ds_base::{Due, LeftOut, Proc, Tick, Width};
 
@@ -14,6 +17,9 @@ pub enum Stepped {
 
 /// A machine that goes forward and back. Each place in its time is a tick: all steps below it are taken, and none at it or later. (Our choice.)
 pub trait Deck {
+    /// The machine at the boot from which it came.
+    ghost boot: { Self → MachineState };
+
     /// The tick up to which it was run: once it was run to a tick, its place in time.
     fn now(&self) -> Tick;
 
@@ -52,25 +58,31 @@ pub trait Deck {
     fn reached(&self, proc: Proc) -> Option<Reach>;
 
     /// The step of the actor that acts next, at its tick, which is told. Where it is left out, the deck has to go back before it goes on.
-    fn step(&mut self, at: Tick) -> Stepped;
+    fn step(&mut self, at: Tick) -> Stepped
+        ensures { boot self.new ≡ boot self.old };
 
     /// The steps of all actors at the tick at which the next one acts, which is told.
-    fn step_all(&mut self, at: Tick) -> Stepped;
+    fn step_all(&mut self, at: Tick) -> Stepped
+        ensures { boot self.new ≡ boot self.old };
 
     /// Goes on to a tick, which is its place in time then; or comes to a step that needs what is left out.
-    fn run_to(&mut self, until: Tick) -> Stepped;
+    fn run_to(&mut self, until: Tick) -> Stepped
+        ensures { boot self.new ≡ boot self.old };
 
     /// Goes to a tick at which it was before, or on to one; false for want of memory.
-    fn go_to(&mut self, at: Tick) -> bool;
+    fn go_to(&mut self, at: Tick) -> bool
+        ensures { boot self.new ≡ boot self.old };
 
     /// Keeps its state for the ways back, where work was done since the last one that is kept.
-    fn keep(&mut self);
+    fn keep(&mut self)
+        ensures { boot self.new ≡ boot self.old };
 
     /// How many states are kept.
     fn kept(&self) -> u64;
 
     /// The state in bytes, as the program `nds` saves it; None for want of memory.
-    fn state(&mut self) -> Option<Vec<u8>>;
+    fn state(&mut self) -> Option<Vec<u8>>
+        ensures { boot self.new ≡ boot self.old };
 
     /// When the last whole frame became so.
     fn framed(&self) -> Option<Tick>;

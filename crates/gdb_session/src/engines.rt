@@ -1,5 +1,7 @@
 //! How a run goes on, step by step, up to where it stops.
 
+ghost use Rattle.std.specs.Prelude.{◌≡◌};
+
 use crate::decks::{Deck, Stepped};
 use crate::goals::{Aim, Inside, Stand, is_met};
 use crate::looks::{Told, look, who_changes, work};
@@ -111,7 +113,9 @@ fn watch_stop(rank: u8, watched: Watched, proc: Proc) -> Stop {
 }
 
 /// The stop, once the deck has gone to its tick.
-fn stop_at<D: Deck>(deck: &mut D, at: Tick, stop: Stop) -> Stop {
+fn stop_at<D: Deck>(deck: &mut D, at: Tick, stop: Stop) -> Stop
+    ensures boot { D.boot deck.new ≡ D.boot deck.old }
+{
     if deck.go_to(at) {
         stop
     } else {
@@ -120,12 +124,16 @@ fn stop_at<D: Deck>(deck: &mut D, at: Tick, stop: Stop) -> Stop {
 }
 
 /// The stop at a step that is left out, at its tick.
-fn stop_left<D: Deck>(deck: &mut D, left: LeftOut, run: &Run) -> Stop {
+fn stop_left<D: Deck>(deck: &mut D, left: LeftOut, run: &Run) -> Stop
+    ensures boot { D.boot deck.new ≡ D.boot deck.old }
+{
     stop_at(deck, left.tick, left_stop(left, run.proc, run.is_alone))
 }
 
 /// Takes the steps of the next tick. Where the run is to go on and on nobody asks which processor took one.
-fn take_steps<D: Deck>(deck: &mut D, run: &mut Run, at: Tick) -> Stepped {
+fn take_steps<D: Deck>(deck: &mut D, run: &mut Run, at: Tick) -> Stepped
+    ensures boot { D.boot deck.new ≡ D.boot deck.old }
+{
     if run.aim == Aim::On {
         return deck.step_all(at);
     }
@@ -134,7 +142,9 @@ fn take_steps<D: Deck>(deck: &mut D, run: &mut Run, at: Tick) -> Stepped {
 
 /// The rank of the actor that changed watched bytes at a tick, by the first one at it and how many steps all took before. Where several stepped, they
 /// step again one by one.
-fn who_changed<D: Deck>(deck: &mut D, points: &mut Points, next: Due, before: u64) -> u8 {
+fn who_changed<D: Deck>(deck: &mut D, points: &mut Points, next: Due, before: u64) -> u8
+    ensures boot { D.boot deck.new ≡ D.boot deck.old }
+{
     if work(deck) == before.saturating_add(1) || !deck.go_to(next.tick) {
         return next.rank;
     }
@@ -155,7 +165,9 @@ fn take_watched<D: Deck>(
     points: &mut Points,
     run: &mut Run,
     next: Due,
-) -> Option<Stop> {
+) -> Option<Stop>
+    ensures boot { D.boot deck.new ≡ D.boot deck.old }
+{
     let before = work(deck);
     if let Stepped::Left(left) = take_steps(deck, run, next.tick) {
         return Some(stop_left(deck, left, run));
@@ -173,7 +185,9 @@ fn take_watched<D: Deck>(
 }
 
 /// Takes the steps of the next tick.
-fn take<D: Deck>(deck: &mut D, points: &mut Points, run: &mut Run, next: Due) -> Option<Stop> {
+fn take<D: Deck>(deck: &mut D, points: &mut Points, run: &mut Run, next: Due) -> Option<Stop>
+    ensures boot { D.boot deck.new ≡ D.boot deck.old }
+{
     if !points.watches.is_empty() {
         return take_watched(deck, points, run, next);
     }
@@ -184,7 +198,9 @@ fn take<D: Deck>(deck: &mut D, points: &mut Points, run: &mut Run, next: Due) ->
 }
 
 /// Takes the steps of the next tick in a run that ends with one of its processor's.
-fn take_counted<D: Deck>(deck: &mut D, run: &mut Run, at: Tick) -> Stepped {
+fn take_counted<D: Deck>(deck: &mut D, run: &mut Run, at: Tick) -> Stepped
+    ensures boot { D.boot deck.new ≡ D.boot deck.old }
+{
     let before = stand(deck, run.proc);
     let steps = deck.steps(run.proc);
     let stepped = deck.step_all(at);
@@ -195,7 +211,9 @@ fn take_counted<D: Deck>(deck: &mut D, run: &mut Run, at: Tick) -> Stepped {
 }
 
 /// The end of a run in any case.
-fn arrive<D: Deck>(deck: &mut D, run: &Run) -> Stop {
+fn arrive<D: Deck>(deck: &mut D, run: &Run) -> Stop
+    ensures boot { D.boot deck.new ≡ D.boot deck.old }
+{
     match deck.run_to(Tick(run.end)) {
         Stepped::Taken => Stop::signal(run.proc, run.ending),
         Stepped::Left(left) => stop_left(deck, left, run),
@@ -203,7 +221,9 @@ fn arrive<D: Deck>(deck: &mut D, run: &Run) -> Stop {
 }
 
 /// One step of a run, or its stop.
-fn go_step<D: Deck>(deck: &mut D, points: &mut Points, run: &mut Run) -> Gone {
+fn go_step<D: Deck>(deck: &mut D, points: &mut Points, run: &mut Run) -> Gone
+    ensures boot { D.boot deck.new ≡ D.boot deck.old }
+{
     let next = deck.next();
     if next.tick.0 >= run.end {
         return Gone::Stop(arrive(deck, run));
@@ -218,8 +238,10 @@ fn go_step<D: Deck>(deck: &mut D, points: &mut Points, run: &mut Run) -> Gone {
 }
 
 /// Some steps of a run.
-fn go_chunk<D: Deck>(deck: &mut D, points: &mut Points, run: &mut Run) -> Gone {
-    for _ in 0..CHUNK_STEPS {
+fn go_chunk<D: Deck>(deck: &mut D, points: &mut Points, run: &mut Run) -> Gone
+    ensures boot { D.boot deck.new ≡ D.boot deck.old }
+{
+    'steps: for _ in 0..CHUNK_STEPS {
         if let Gone::Stop(stop) = go_step(deck, points, run) {
             return Gone::Stop(stop);
         }
@@ -228,7 +250,9 @@ fn go_chunk<D: Deck>(deck: &mut D, points: &mut Points, run: &mut Run) -> Gone {
 }
 
 /// Some ticks of a run in which nothing is looked for.
-fn run_chunk<D: Deck>(deck: &mut D, run: &Run) -> Gone {
+fn run_chunk<D: Deck>(deck: &mut D, run: &Run) -> Gone
+    ensures boot { D.boot deck.new ≡ D.boot deck.old }
+{
     let until = deck.now().0.saturating_add(CHUNK_TICKS);
     if until >= run.end {
         return Gone::Stop(arrive(deck, run));
@@ -240,10 +264,12 @@ fn run_chunk<D: Deck>(deck: &mut D, run: &Run) -> Gone {
 }
 
 /// A run, up to its stop.
-pub fn go<D: Deck>(deck: &mut D, points: &mut Points, run: &mut Run) -> Stop {
+pub fn go<D: Deck>(deck: &mut D, points: &mut Points, run: &mut Run) -> Stop
+    ensures boot { D.boot deck.new ≡ D.boot deck.old }
+{
     let is_free = run.aim == Aim::On && points.is_empty();
     points.watches.look(deck);
-    for _ in 0..MOST_CHUNKS {
+    'chunks: for _ in 0..MOST_CHUNKS {
         let gone = if is_free {
             run_chunk(deck, run)
         } else {

@@ -1,5 +1,7 @@
 //! Bytes to bytes: what comes in from gdb, and what goes out.
 
+ghost use Rattle.std.specs.Prelude.{◌≡◌};
+
 use crate::commands::Outlet;
 use crate::decks::Deck;
 use crate::replies::Reply;
@@ -54,8 +56,10 @@ impl Line {
         files: &mut F,
         bytes: &[u8],
         out: &mut Answer,
-    ) -> Result<(), AllocError> {
-        for byte in bytes {
+    ) -> Result<(), AllocError>
+        ensures boot { D.boot deck.new ≡ D.boot deck.old }
+    {
+        'bytes: for byte in bytes {
             if !self.is_over {
                 self.hear_byte(deck, files, *byte, out)?;
             }
@@ -70,7 +74,9 @@ impl Line {
         files: &mut F,
         byte: u8,
         out: &mut Answer,
-    ) -> Result<(), AllocError> {
+    ) -> Result<(), AllocError>
+        ensures boot { D.boot deck.new ≡ D.boot deck.old }
+    {
         match self.framer.hear(byte)? {
             Heard::Nothing => Ok(()),
             Heard::Packet => self.answer(deck, files, out),
@@ -98,7 +104,9 @@ impl Line {
         deck: &mut D,
         files: &mut F,
         out: &mut Answer,
-    ) -> Result<(), AllocError> {
+    ) -> Result<(), AllocError>
+        ensures boot { D.boot deck.new ≡ D.boot deck.old }
+    {
         self.put_sign(out, b"+")?;
         self.reply.clear();
         let request = read_request(self.framer.body());

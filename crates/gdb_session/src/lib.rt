@@ -12,8 +12,9 @@
 //! - A step may be answered for one processor alone. Both run all the same; what the other one met is kept, and the next run begins there.
 //! - A run is answered after a slice of ticks by SIGALRM, with which gdb goes on by itself, so that an interrupt is heard.
 //!
-//! Proved: no bytes that come in make a call fault, and each call returns. Console's calls come with what they ask for: a state is saved only where
-//! all steps below its tick are taken, and each line of a copied key script comes after the one before.
+//! Proved: no bytes that come in make a call fault, and each call returns. Whatever they ask for, the deck comes from the boot from which it came
+//! before (`Line::hear`), and a tape's console came from its boot by turns (`Tape::laws`), over all ways forward and back: what is kept of
+//! it is read back as the console that it was.
 //!
 //! Only tested, by what the program `nds_gdb` answers to a session's packets: where runs stop, and what each answer says.
 #![tactic(auto)]

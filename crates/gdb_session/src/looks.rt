@@ -1,5 +1,7 @@
 //! Whether a run stops before the steps of a tick.
 
+ghost use Rattle.std.specs.Prelude.{◌≡◌};
+
 use crate::decks::{Deck, Stepped};
 use crate::engines::{Met, Run};
 use crate::points::Points;
@@ -136,10 +138,12 @@ pub fn work<D: Deck>(deck: &D) -> u64 {
 }
 
 /// The rank of the actor whose step at the present tick changes watched bytes, if one does. The steps of that tick are taken then.
-pub fn who_changes<D: Deck>(deck: &mut D, points: &mut Points, at: Tick) -> Option<u8> {
+pub fn who_changes<D: Deck>(deck: &mut D, points: &mut Points, at: Tick) -> Option<u8>
+    ensures boot { D.boot deck.new ≡ D.boot deck.old }
+{
     points.watches.look(deck);
     let mut found = None;
-    for _ in 0..MOST_STEPS {
+    'steps: for _ in 0..MOST_STEPS {
         let now = deck.next();
         if now.tick.0 > at.0 || deck.step(now.tick) != Stepped::Taken {
             break;

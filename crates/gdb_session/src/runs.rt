@@ -1,10 +1,14 @@
 //! Calls of a console, each with what it needs tested first.
 
-ghost use Rattle.std.specs.Prelude.{◌<◌, ◌^◌, IsTrue};
-ghost use Rattle.ds_base.specs.KeyLines.{ComesAfter};
+ghost use Rattle.std.specs.Prelude.{◌≡◌, None, IfOk, IfSome};
+ghost use Rattle.ds_machine.specs.WithinLaws.{IsWithinTick};
+ghost use Rattle.ds_machine.specs.Reference.{dues_of};
+ghost use Rattle.ds_runs.specs.Runs.{IsOver};
+ghost use Rattle.gdb_session.specs.Tapes.{ComesFrom};
+ghost use Rattle.run_ahead.specs.Saved.{IsReadBack};
 
 use crate::decks::Stepped;
-use ds_base::{KeyLine, Keys, Tick};
+use ds_base::{Keys, Tick};
 use run_ahead::{Console, Turned};
 use std::alloc::{AllocError, Global};
 
@@ -14,26 +18,14 @@ pub const MOST_TICK: u64 = 0x100_0000_0000_0000;
 /// How many frames a run makes whole at most between two looks.
 const MOST_FRAMES: u64 = 0x100_0000_0000_0000;
 
-/// Whether a line may come behind the others of a script.
-fn may_follow(keys: &Keys, line: KeyLine) -> bool
-    ensures rises { IsTrue result → ComesAfter keys.now line }
-    ensures twelve { IsTrue result → line.pressed < 2 ^ 12 }
-{
-    if line.pressed >= 0x1000 {
-        return false;
-    }
-    let count = keys.len();
-    count == 0 || keys.line(count - 1).tick.0 < line.tick.0
-}
-
 /// A copy of a key script.
-pub fn copy_keys(alloc: Global, keys: &Keys) -> Result<Keys, AllocError> {
+pub fn copy_keys(alloc: Global, keys: &Keys) -> Result<Keys, AllocError>
+    ensures { IfOk result (λ copy. copy ≡ keys.now) }
+{
     let mut copy = Keys::new(alloc);
-    for place in 0..keys.len() {
-        let line = keys.line(place);
-        if may_follow(&copy, line) {
-            copy.push(line)?;
-        }
+    let count = keys.len();
+    'lines: for place in 0..count {
+        copy.push(keys.line(place))?;
     }
     Ok(copy)
 }
@@ -44,7 +36,9 @@ pub fn is_over(console: &Console) -> bool {
 }
 
 /// The step of the actor that acts next, at its tick, alone.
-pub fn step_console(console: &mut Console, at: Tick) -> Stepped {
+pub fn step_console(console: &mut Console, at: Tick) -> Stepped
+    ensures { ComesFrom console.old console.new }
+{
     if at.0 >= MOST_TICK {
         return Stepped::Taken;
     }
@@ -55,14 +49,18 @@ pub fn step_console(console: &mut Console, at: Tick) -> Stepped {
 }
 
 /// The steps of all actors at the tick at which the next one acts.
-pub fn step_all_of(console: &mut Console, at: Tick) -> Stepped {
+pub fn step_all_of(console: &mut Console, at: Tick) -> Stepped
+    ensures { ComesFrom console.old console.new }
+{
     run_console(console, Tick(at.0.min(MOST_TICK - 1) + 1))
 }
 
 /// Runs a console to a tick.
-pub fn run_console(console: &mut Console, until: Tick) -> Stepped {
+pub fn run_console(console: &mut Console, until: Tick) -> Stepped
+    ensures { ComesFrom console.old console.new }
+{
     let until = Tick(until.0.min(MOST_TICK));
-    for _ in 0..MOST_FRAMES {
+    'frames: for _ in 0..MOST_FRAMES {
         match console.run_on(until) {
             Turned::Stopped(left) => return Stepped::Left(left),
             Turned::AtEnd => return Stepped::Taken,
@@ -73,7 +71,12 @@ pub fn run_console(console: &mut Console, until: Tick) -> Stepped {
 }
 
 /// The console in bytes, where it hasn't stopped and all steps below its limit are taken.
-pub fn save_console(alloc: Global, console: &mut Console, digest: &[u8; 32]) -> Option<Vec<u8>> {
+pub fn save_console(alloc: Global, console: &mut Console, digest: &[u8; 32]) -> Option<Vec<u8>>
+    ensures comes { ComesFrom console.old console.new }
+    ensures open { IfSome result (λ _. console.new.stopped ≡ None) }
+    ensures over { IfSome result (λ _. IsOver (dues_of console.new.machine) console.new.limit) }
+    ensures back { IfSome result (λ bytes. IsWithinTick console.new.limit console.new.machine → IsReadBack digest.now console.new bytes.items) }
+{
     let at = console.limit();
     if !is_over(console) {
         return None;

@@ -1,5 +1,7 @@
 //! States that are kept for the ways back.
 
+ghost use Rattle.std.specs.Prelude.{◌≡◌, ◌++◌, ◌∷◌, [], ℕ, All, Contains, IfSome};
+
 use std::alloc::{AllocError, Global};
 
 /// How much work there is between two states: steps of processors, and of all other actors.
@@ -10,13 +12,13 @@ const MOST_SAVES: usize = 64;
 
 /// A state that is kept.
 #[derive(Drop)]
-struct Save {
+pub struct Save {
     /// Its place in time.
-    at: u64,
+    pub at: u64,
     /// How much work was done up to it.
     work: u64,
     /// The state in bytes.
-    bytes: Vec<u8>,
+    pub bytes: Vec<u8>,
 }
 
 /// States that are kept, the earliest first, which is the one at tick 0. Of too many every other one goes, and the gap between them doubles.
@@ -28,7 +30,9 @@ pub struct Saves {
 
 impl Saves {
     /// None is kept.
-    pub fn new(alloc: Global) -> Saves {
+    pub fn new(alloc: Global) -> Saves
+        ensures { result.all.items ≡ [] }
+    {
         Saves {
             all: Vec::new(alloc),
             gap: FIRST_GAP,
@@ -48,8 +52,10 @@ impl Saves {
         }
     }
 
-    /// Keeps a state behind the others.
-    pub fn push(&mut self, at: u64, work: u64, bytes: Vec<u8>) -> Result<(), AllocError> {
+    /// Keeps a state behind the others. Those that stand there then were there, or it is the one.
+    pub fn push(&mut self, at: u64, work: u64, bytes: Vec<u8>) -> Result<(), AllocError>
+        ensures { All (Contains (self.old.all.items ++ record { at = at; work = work; bytes = bytes } ∷ [])) self.new.all.items }
+    {
         if self.all.len() >= MOST_SAVES {
             self.thin();
         }
@@ -58,41 +64,27 @@ impl Saves {
     }
 
     /// Takes every other one away.
-    fn thin(&mut self) {
+    fn thin(&mut self)
+        ensures { All (Contains self.old.all.items) self.new.all.items }
+    {
         self.gap = self.gap.saturating_mul(2);
-        for place in 1..MOST_SAVES {
+        'places: for place in 1..MOST_SAVES {
             if place < self.all.len() {
                 let _gone = self.all.remove(place);
             }
         }
     }
 
-    /// The place of the last one that isn't after a tick.
-    pub fn place_before(&self, at: u64) -> Option<usize> {
+    /// The last one that isn't after a tick.
+    pub fn before(&self, at: u64) -> Option<&Save>
+        ensures { IfSome result (λ save. Contains self.now.all.items save.now) }
+    {
         let mut found = None;
-        for place in 0..self.all.len() {
-            if self.all[place].at <= at {
-                found = Some(place);
+        'saves: for save in self.all.iter() {
+            if save.at <= at {
+                found = Some(save);
             }
         }
         found
-    }
-
-    /// When the state of a place was kept.
-    pub fn tick(&self, place: usize) -> u64 {
-        if place < self.all.len() {
-            self.all[place].at
-        } else {
-            0
-        }
-    }
-
-    /// The bytes of the state of a place.
-    pub fn bytes(&self, place: usize) -> &[u8] {
-        if place < self.all.len() {
-            self.all[place].bytes.as_slice()
-        } else {
-            &[]
-        }
     }
 }

@@ -1,5 +1,7 @@
 //! Packets to answers.
 
+ghost use Rattle.std.specs.Prelude.{◌≡◌};
+
 use crate::commands::{Outlet, command};
 use crate::decks::Deck;
 use crate::replies::{
@@ -92,7 +94,9 @@ fn look<D: Deck>(
 }
 
 /// A request that moves the machine; false where it isn't one.
-fn moves<D: Deck>(session: &mut Session, deck: &mut D, request: Request) -> bool {
+fn moves<D: Deck>(session: &mut Session, deck: &mut D, request: Request) -> bool
+    ensures boot { D.boot deck.new ≡ D.boot deck.old }
+{
     match request {
         Request::Go(going) => go_on(session, deck, going),
         Request::BackStep => go_back(session, deck, true),
@@ -110,7 +114,9 @@ pub fn serve<D: Deck, F: Outlet>(
     files: &mut F,
     reply: &mut Reply,
     request: Request,
-) -> Result<(), AllocError> {
+) -> Result<(), AllocError>
+    ensures boot { D.boot deck.new ≡ D.boot deck.old }
+{
     if let Some(text) = fixed(request) {
         return reply.body.put(text);
     }

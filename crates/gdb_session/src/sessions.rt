@@ -1,5 +1,7 @@
 //! A session: what gdb chose, the points that it put, and where the run stands.
 
+ghost use Rattle.std.specs.Prelude.{◌≡◌};
+
 use crate::backs::back;
 use crate::decks::Deck;
 use crate::engines::{Met, Run, go};
@@ -141,7 +143,9 @@ fn bound(run: &mut Run, until: Option<u64>) {
 }
 
 /// Goes back to what the other processor met.
-fn go_to_meeting<D: Deck>(session: &mut Session, deck: &mut D, met: Met) -> Stop {
+fn go_to_meeting<D: Deck>(session: &mut Session, deck: &mut D, met: Met) -> Stop
+    ensures boot { D.boot deck.new ≡ D.boot deck.old }
+{
     if !deck.go_to(Tick(met.at)) {
         return Stop::signal(met.stop.proc, crate::stops::NO_MEMORY);
     }
@@ -154,7 +158,9 @@ fn go_to_meeting<D: Deck>(session: &mut Session, deck: &mut D, met: Met) -> Stop
 }
 
 /// Goes to the tick that the user gave, which isn't after the present one.
-fn go_to_until<D: Deck>(session: &mut Session, deck: &mut D, until: u64) -> Stop {
+fn go_to_until<D: Deck>(session: &mut Session, deck: &mut D, until: u64) -> Stop
+    ensures boot { D.boot deck.new ≡ D.boot deck.old }
+{
     session.until = None;
     session.forget();
     if deck.go_to(Tick(until)) {
@@ -165,7 +171,9 @@ fn go_to_until<D: Deck>(session: &mut Session, deck: &mut D, until: u64) -> Stop
 }
 
 /// A run from here.
-fn run_from_here<D: Deck>(session: &mut Session, deck: &mut D, going: Going) -> Stop {
+fn run_from_here<D: Deck>(session: &mut Session, deck: &mut D, going: Going) -> Stop
+    ensures boot { D.boot deck.new ≡ D.boot deck.old }
+{
     let now = deck.now().0;
     let mut run = session.run_of(going, now);
     if run.aim == Aim::On {
@@ -182,7 +190,9 @@ fn run_from_here<D: Deck>(session: &mut Session, deck: &mut D, going: Going) -> 
 }
 
 /// The stop of a run that goes on.
-fn stop_of<D: Deck>(session: &mut Session, deck: &mut D, going: Going) -> Stop {
+fn stop_of<D: Deck>(session: &mut Session, deck: &mut D, going: Going) -> Stop
+    ensures boot { D.boot deck.new ≡ D.boot deck.old }
+{
     if !going.is_alone {
         session.points.forget();
         let met = kept_meeting(session.met, &session.points);
@@ -200,7 +210,9 @@ fn stop_of<D: Deck>(session: &mut Session, deck: &mut D, going: Going) -> Stop {
 }
 
 /// Goes on, as a packet asks for.
-pub fn go_on<D: Deck>(session: &mut Session, deck: &mut D, going: Going) {
+pub fn go_on<D: Deck>(session: &mut Session, deck: &mut D, going: Going)
+    ensures boot { D.boot deck.new ≡ D.boot deck.old }
+{
     if session.is_interrupted {
         session.is_interrupted = false;
         let proc = session.stop.proc;
@@ -215,7 +227,9 @@ pub fn go_on<D: Deck>(session: &mut Session, deck: &mut D, going: Going) {
 }
 
 /// Goes back: one step, or to a point or the beginning.
-pub fn go_back<D: Deck>(session: &mut Session, deck: &mut D, is_step: bool) {
+pub fn go_back<D: Deck>(session: &mut Session, deck: &mut D, is_step: bool)
+    ensures boot { D.boot deck.new ≡ D.boot deck.old }
+{
     let proc = session.aimed_at();
     let stop = back(deck, &mut session.points, proc, is_step, session.shows_irq);
     session.met = None;

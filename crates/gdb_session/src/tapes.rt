@@ -1,16 +1,22 @@
 //! The console with its past.
 
-ghost use Rattle.std.specs.Prelude.{◌<◌};
+ghost use Rattle.std.specs.Prelude.{◌≡◌, ◌<◌, IfOk};
+ghost use Rattle.ds_machine.specs.Booted.{machine_booted};
+ghost use Rattle.gdb_session.specs.Tapes.{ComesFromBoot, boot_of};
 
 use crate::decks::{Deck, Stepped};
-use crate::runs::{copy_keys, is_over, run_console, save_console, step_all_of, step_console};
+use crate::runs::{
+    MOST_TICK, copy_keys, is_over, run_console, save_console, step_all_of, step_console,
+};
 use crate::saves::Saves;
 use arm_core::Reach;
-use ds_base::{Due, Keys, Proc, Tick, Width};
+use ds_base::{Due, Keys, Proc, Tick, Width, known};
 use ds_header::Cart;
-use run_ahead::Console;
+use ds_machine::time_laws;
+use run_ahead::{Console, turn_laws};
 use sha2::{Digest, Sha256};
 use std::alloc::{AllocError, Global};
+use std::marker::Model;
 
 /// A console, what was kept of its past, and what it takes to go there.
 #[derive(Drop)]
@@ -22,12 +28,27 @@ pub struct Tape {
     saves: Saves,
 }
 
+impl Model for Tape {
+    ghost use Rattle.ds_machine.specs.Booted.{machine_booted};
+    ghost use Rattle.gdb_session.specs.Tapes.{IsOfOneRun, TapeState};
+
+    ghost Value = { TapeState };
+
+    ghost view = { λ t. record { console = t.console; keys = t.keys } };
+
+    ghost invariant = { λ t. IsOfOneRun (machine_booted t.console.machine.file t.keys) t.keys t.digest t.console t.saves.all.items };
+}
+
 impl Tape {
-    /// A console that is switched on with a cartridge and a key script, at tick 0.
-    pub fn new(alloc: Global, cart: Cart, keys: Keys) -> Result<Tape, AllocError> {
+    /// A console that is switched on with a cartridge and a key script, at tick 0. The error is want of memory.
+    pub fn new(alloc: Global, cart: Cart, keys: Keys) -> Result<Tape, AllocError>
+        ensures { IfOk result (λ tape. boot_of tape ≡ machine_booted cart keys) }
+    {
+        known!(time_laws());
         let digest = Sha256::digest(cart.bytes());
         let script = copy_keys(alloc, &keys)?;
         let console = Console::new(alloc, cart, keys)?;
+        known!(console.laws());
         let mut tape = Tape {
             alloc,
             console,
@@ -48,23 +69,42 @@ impl Tape {
             .saturating_add(counts.events)
     }
 
-    /// Becomes the state of a place among those that are kept.
-    fn take(&mut self, place: usize) -> bool {
+    /// Becomes the last state that is kept and isn't after a tick.
+    fn take(&mut self, at: u64) -> bool
+        ensures { boot_of self.new ≡ boot_of self.old }
+    {
         let Ok(keys) = copy_keys(self.alloc, &self.keys) else {
             return false;
         };
-        let until = Tick(self.saves.tick(place).min(crate::runs::MOST_TICK - 1) + 1);
-        let bytes = self.saves.bytes(place);
-        if bytes.len() > 0xffff_ffff {
+        let Some(save) = self.saves.before(at) else {
+            return false;
+        };
+        let bytes = save.bytes.as_slice();
+        if save.at >= MOST_TICK || bytes.len() > 0xffff_ffff {
             return false;
         }
-        self.console
+        let until = Tick(save.at + 1);
+        match self
+            .console
             .go_back(self.alloc, keys, &self.digest, bytes, until)
-            .is_ok()
+        {
+            Ok(()) => true,
+            Err(_) => false,
+        }
+    }
+
+    /// Does nothing; its contract states that the console came by turns from the boot with its cartridge and the key script: so it is the reference
+    /// run's, whatever was asked of the tape, forward or back.
+    pub fn laws(&self)
+        ensures { ComesFromBoot (boot_of self.now) self.now.console }
+    {
+        let _ = &self.console;
     }
 }
 
 impl Deck for Tape {
+    ghost boot = { boot_of };
+
     fn now(&self) -> Tick {
         self.console.limit()
     }
@@ -129,13 +169,9 @@ impl Deck for Tape {
     }
 
     fn go_to(&mut self, at: Tick) -> bool {
-        if self.now().0 > at.0 || !is_over(&self.console) {
-            let Some(place) = self.saves.place_before(at.0) else {
-                return false;
-            };
-            if !self.take(place) {
-                return false;
-            }
+        let is_there = self.now().0 <= at.0 && is_over(&self.console);
+        if !is_there && !self.take(at.0) {
+            return false;
         }
         self.run_to(at) == Stepped::Taken
     }
@@ -146,9 +182,13 @@ impl Deck for Tape {
         if !self.saves.wants(at, work) {
             return;
         }
-        if let Some(bytes) = save_console(self.alloc, &mut self.console, &self.digest) {
-            let _ = self.saves.push(at, work, bytes);
-        }
+        let Some(bytes) = save_console(self.alloc, &mut self.console, &self.digest) else {
+            return;
+        };
+        known!(turn_laws());
+        known!(time_laws());
+        let at = self.console.limit().0;
+        let _ = self.saves.push(at, work, bytes);
     }
 
     fn kept(&self) -> u64 {

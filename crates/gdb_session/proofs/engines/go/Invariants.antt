@@ -1,0 +1,5 @@
+use Rattle.std.proofs.Common.{◌≡◌}
+use Rattle.gdb_session.proofs.engines.go.Given as goal
+
+abbrev pub invariant-chunks : goal.invariant-chunks
+invariant-chunks g l = g.D.Deck.boot l.deck ≡ g.D.Deck.boot l.initial.deck

@@ -1,0 +1,5 @@
+use Rattle.std.proofs.Common.{◌≡◌}
+use Rattle.gdb_session.proofs.hearing.Line.hear.Given as goal
+
+abbrev pub invariant-bytes : goal.invariant-bytes
+invariant-bytes g l = g.D.Deck.boot l.deck ≡ g.D.Deck.boot l.initial.deck

@@ -1,0 +1,5 @@
+use Rattle.std.proofs.Common.{◌≡◌}
+use Rattle.gdb_session.proofs.looks.who_changes.Given as goal
+
+abbrev pub invariant-steps : goal.invariant-steps
+invariant-steps g l = g.D.Deck.boot l.deck ≡ g.D.Deck.boot l.initial.deck

@@ -1,0 +1,5 @@
+use Rattle.std.proofs.Common.{◌≡◌, take}
+use Rattle.gdb_session.proofs.runs.copy_keys.Given as goal
+
+abbrev pub invariant-lines : goal.invariant-lines
+invariant-lines l = l.copy ≡ take l.place l.keys

@@ -1,0 +1,5 @@
+use Rattle.gdb_session.specs.Tapes.{ComesFrom}
+use Rattle.gdb_session.proofs.runs.run_console.Given as goal
+
+abbrev pub invariant-frames : goal.invariant-frames
+invariant-frames l = ComesFrom l.initial.console l.console

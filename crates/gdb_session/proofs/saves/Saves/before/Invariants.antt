@@ -1,0 +1,6 @@
+use Rattle.std.proofs.Common.{Contains}
+use Rattle.std.specs.Prelude.{IfSome}
+use Rattle.gdb_session.proofs.saves.Saves.before.Given as goal
+
+abbrev pub invariant-saves : goal.invariant-saves
+invariant-saves l = IfSome l.found (λ save. Contains l.self.all.items save.now)

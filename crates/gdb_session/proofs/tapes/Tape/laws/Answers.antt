@@ -1,0 +1,7 @@
+use Rattle.std.proofs.Common.{subst}
+use Rattle.gdb_session.specs.Tapes.{ComesFromBoot, TapeState, boot_of}
+use Rattle.gdb_session.proofs.tapes.Tape.laws.Goals as goal
+
+pub returns : goal.returns
+returns c =
+    subst (λ (t : TapeState). ComesFromBoot (boot_of t) t.console) c.self.view_is c.self.invariant.came

@@ -1,0 +1,28 @@
+use Rattle.std.proofs.Common.{ap, ◌∙◌}
+use Rattle.gdb_session.specs.Tapes.{IsKept, boot_of}
+use Rattle.gdb_session.specs.contracts.tapes.Tape.{the_view as tape_view}
+use Rattle.gdb_session.proofs.Kept.{goes_on, is_kept, kept_more, same_boot}
+use Rattle.gdb_session.proofs.tapes.TapeDeck.keep.Goals as goal
+
+pub invariant_of-self : goal.invariant_of-self
+invariant_of-self c = goes_on _ _ _ _ _ c.self.invariant c.save_console.ensures.comes
+
+pub returns-in_default : goal.returns-in_default
+returns-in_default c = same_boot (tape_view c.self.inside) _ c.save_console.ensures.comes ∙ ap boot_of c.self.view_is
+
+pub invariant_of-self-2 : goal.invariant_of-self-2
+invariant_of-self-2 c =
+    let i = c.self.inside in
+    let now = c.save_console.new.console in
+    let on = goes_on i.keys i.digest i.console now i.saves.all.items c.self.invariant c.save_console.ensures.comes in
+    let kept = is_kept c.turn_laws.ensures.runs c.time_laws.ensures.run c.time_laws.ensures.keys i.keys i.digest now i.saves.all.items on c.in-Some.ensures.«open» c.in-Some.ensures.over in
+    record {
+      sound = on.sound;
+      parts = on.parts;
+      within = on.within;
+      came = on.came;
+      kept = kept_more (IsKept now.machine.file i.keys i.digest) i.saves.all.items c.push.new.self.all.items _ on.kept (kept _ c.limit-at.ensures.limit c.in-Some.ensures.back) c.push.ensures;
+    }
+
+pub returns : goal.returns
+returns c = same_boot (tape_view c.self.inside) _ c.save_console.ensures.comes ∙ ap boot_of c.self.view_is

@@ -1,0 +1,11 @@
+use Rattle.std.proofs.Common.{ap, ◌∙◌}
+use Rattle.gdb_session.specs.Tapes.{boot_of}
+use Rattle.gdb_session.specs.contracts.tapes.Tape.{the_view as tape_view}
+use Rattle.gdb_session.proofs.Kept.{goes_on, same_boot}
+use Rattle.gdb_session.proofs.tapes.TapeDeck.run_to.Goals as goal
+
+pub invariant_of-self : goal.invariant_of-self
+invariant_of-self c = goes_on _ _ _ _ _ c.self.invariant c.run_console.ensures
+
+pub returns : goal.returns
+returns c = same_boot (tape_view c.self.inside) _ c.run_console.ensures ∙ ap boot_of c.self.view_is

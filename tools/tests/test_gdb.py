@@ -205,7 +205,7 @@ class Thumb(Gdb):
 
     def test_watchpoints_of_reads_both_ways(self):
         self.of_tests("thumb", "thumb", seven="count")
-        said = self.said(self.target("thumb"), "break main", "continue", "delete", "rwatch total", "continue", "x/i $pc-4", "monitor tick", "continue",
+        said = self.said(self.target("thumb"), "break thumb.c:main", "continue", "delete", "rwatch total", "continue", "x/i $pc-4", "monitor tick", "continue",
                          "monitor tick", "reverse-continue", "x/i $pc", "monitor tick", "reverse-continue", "monitor tick", "stepi", "monitor tick", "delete",
                          "thread 2", "rwatch count", "continue", "x/i $pc-4", "continue", elf="thumb", elf7="seven")  # fmt: skip
         told = "Thread 1 hit Hardware read watchpoint 2: total\n\nValue = {}\n"

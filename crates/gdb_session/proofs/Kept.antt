@@ -15,7 +15,7 @@ use Rattle.ds_machine.specs.WithinLaws.{IsWithinTick, RunsKeepScript, RunsStayWi
 use Rattle.run_ahead.specs.Consoles.{ConsoleState}
 use Rattle.run_ahead.specs.Saved.{IsReadBack, read_state}
 use Rattle.run_ahead.specs.ToEndLaws.{TurnsKeepRuns}
-use Rattle.gdb_session.specs.Tapes.{ComesFrom, ComesFromBoot, IsKept, IsOfOneRun, TapeState, boot_of}
+use Rattle.gdb_session.specs.Tapes.{ComesFrom, ComesFromBoot, IsSaveOf, IsOfOneRun, TapeState, boot_of}
 use Rattle.gdb_session.specs.declared.saves.Save.{Save}
 use Rattle.gdb_session.proofs.Coming.{booted_file, booted_keys, came_file, comes_on, from_start, stays}
 
@@ -79,7 +79,7 @@ module _ (file : List ℕ) (keys script : List KeyLine) (c : ConsoleState) (same
         parts = subst HasSoundParts (sym boot) parts;
         within = subst (IsWithinTick 0) (sym boot) within;
         came = subst (λ (k : ConsoleState). ComesFrom k c) start (stays c);
-        kept = subst (All (IsKept c.machine.file script digest)) (sym none) (λ i d lt. absurd (omega (arith, lt)));
+        kept = subst (All (IsSaveOf c.machine.file script digest)) (sym none) (λ i d lt. absurd (omega (arith, lt)));
       }
 
 module _ (keys : List KeyLine) (digest : List ℕ) (old new : ConsoleState) (saves : List Save)
@@ -92,7 +92,7 @@ module _ (keys : List KeyLine) (digest : List ℕ) (old new : ConsoleState) (sav
         parts = subst (λ (f : List ℕ). HasSoundParts (machine_booted f keys)) file h.parts;
         within = subst (λ (f : List ℕ). IsWithinTick 0 (machine_booted f keys)) file h.within;
         came = subst (λ (f : List ℕ). ComesFromBoot (machine_booted f keys) new) file came;
-        kept = subst (λ (f : List ℕ). All (IsKept f keys digest) saves) file h.kept;
+        kept = subst (λ (f : List ℕ). All (IsSaveOf f keys digest) saves) file h.kept;
       }
 
   pub goes_on : ComesFrom old new → IsOfOneRun (machine_booted new.machine.file keys) keys digest new saves
@@ -122,7 +122,7 @@ module _ (runs : TurnsKeepRuns) (stay : RunsStayWithinTick) (scripts : RunsKeepS
       (booted_keys c.machine.file keys ∙ sym (from_start keys))
 
   pub is_kept : (save : Save) → save.at ≡ c.limit → (IsWithinTick c.limit c.machine → IsReadBack digest c save.bytes.items)
-      → IsKept c.machine.file keys digest save
+      → IsSaveOf c.machine.file keys digest save
   is_kept save at back = record { console = c; came = h.came; at = sym at; lines = lines_to_come; back = back within_its_limit }
 
 -- ---- the way back
@@ -133,8 +133,8 @@ ok_or other (Err place) = other
 
 module _ (keys : List KeyLine) (digest : List ℕ) (old : ConsoleState) (saves : List Save)
     (h : IsOfOneRun (machine_booted old.machine.file keys) keys digest old saves) (save : Save) (there : Contains saves save) where
-  kept : IsKept old.machine.file keys digest save
-  kept = one_of (IsKept old.machine.file keys digest) saves save h.kept there
+  kept : IsSaveOf old.machine.file keys digest save
+  kept = one_of (IsSaveOf old.machine.file keys digest) saves save h.kept there
 
   its_file : kept.console.machine.file ≡ old.machine.file
   its_file = came_file _ kept.console kept.came.0 kept.came.1 ∙ booted_file old.machine.file keys

@@ -32,7 +32,7 @@ abbrev pub boot_of : TapeState → MachineState
 boot_of t = machine_booted t.console.machine.file t.keys
 
 -- what is kept of such a console: the tick to which it was run, and bytes that are read back as it, with the script's lines from that tick on
-pub record IsKept (file : List ℕ) (keys : List KeyLine) (digest : List ℕ) (save : Save) : Type 0 where
+pub record IsSaveOf (file : List ℕ) (keys : List KeyLine) (digest : List ℕ) (save : Save) : Type 0 where
   pub console : ConsoleState
   pub came : ComesFromBoot (machine_booted file keys) console
   pub at : console.limit ≡ save.at
@@ -45,4 +45,4 @@ pub record IsOfOneRun (boot : MachineState) (keys : List KeyLine) (digest : List
   pub parts : HasSoundParts boot
   pub within : IsWithinTick 0 boot
   pub came : ComesFromBoot boot c
-  pub kept : All (IsKept c.machine.file keys digest) saves
+  pub kept : All (IsSaveOf c.machine.file keys digest) saves

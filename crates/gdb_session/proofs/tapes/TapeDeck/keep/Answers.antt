@@ -1,5 +1,5 @@
 use Rattle.std.proofs.Common.{ap, ◌∙◌}
-use Rattle.gdb_session.specs.Tapes.{IsKept, boot_of}
+use Rattle.gdb_session.specs.Tapes.{IsSaveOf, boot_of}
 use Rattle.gdb_session.specs.contracts.tapes.Tape.{the_view as tape_view}
 use Rattle.gdb_session.proofs.Kept.{goes_on, is_kept, kept_more, same_boot}
 use Rattle.gdb_session.proofs.tapes.TapeDeck.keep.Goals as goal
@@ -21,7 +21,7 @@ invariant_of-self-2 c =
       parts = on.parts;
       within = on.within;
       came = on.came;
-      kept = kept_more (IsKept now.machine.file i.keys i.digest) i.saves.all.items c.push.new.self.all.items _ on.kept (kept _ c.limit-at.ensures.limit c.in-Some.ensures.back) c.push.ensures;
+      kept = kept_more (IsSaveOf now.machine.file i.keys i.digest) i.saves.all.items c.push.new.self.all.items _ on.kept (kept _ c.limit-at.ensures.limit c.in-Some.ensures.back) c.push.ensures;
     }
 
 pub returns : goal.returns

@@ -1,4 +1,4 @@
-use Rattle.std.proofs.Common.{ℕ, Bool, true, false, ◌≡◌, ◌<◌, ◌+◌, ◌-◌, ◌*◌, ◌/◌, ◌%◌, ◌==◌, ◌⊎◌, inl, inr, List, get_or, drop, refl, sym, ◌∙◌, ap, subst, arith}
+use Rattle.std.proofs.Common.{ℕ, Bool, true, false, ◌≡◌, ◌<◌, ◌+◌, ◌-◌, ◌*◌, ◌/◌, ◌%◌, ◌^◌, ◌==◌, ◌⊎◌, inl, inr, List, get_or, drop, refl, sym, ◌∙◌, ap, subst, arith}
 use Rattle.std.specs.List.{slice_range}
 use Rattle.std.proofs.lemmas.List.{get_or-take, get_or-drop}
 use Rattle.std.specs.Prelude.{if◌then◌else◌, ◌&&◌}
@@ -14,7 +14,7 @@ use Rattle.vram_banks.specs.Colours.{indexed_pixel, palette_colour, extended_col
 use Rattle.vram_banks.proofs.PaletteLemmas.{read_pixel, tabled_16, tabled_256}
 use Rattle.vram_banks.specs.Tiles.{nibble_at, flipped}
 use Rattle.bg2d.specs.TextPixels.{text_width, text_height, has_256, text_entry, text_index, text_colour, text_entry_pixel, text_pixel, palette_slot}
-use Rattle.bg2d.specs.rows.Tiling.{block_line, is_extended, AreBlockLines, IsBlockLine, IsKept, tile_row, tiled_pixel, AreEntries, AreIndices, ArePainted, AreTiles}
+use Rattle.bg2d.specs.rows.Tiling.{block_line, is_extended, AreBlockLines, IsBlockLine, IsKept, text_base, tile_offset, tiled_pixel, AreEntries, AreIndices, ArePainted, AreTiles}
 
 -- ---- entries from bytes
 
@@ -87,17 +87,24 @@ entry_of_blocks v layer first k y bytes whole within known read =
 -- ---- indices from bytes
 
 pub index_16 : (v : Banks) (layer : TextLayer) (entry i y : ℕ) → has_256 layer ≡ false →
-    text_index v layer entry i (flipped (bit 11 entry) (y % 8)) ≡ nibble_at i (vram_byte v (background_space layer.engine) (tile_row layer entry y + i / 2))
+    text_index v layer entry i (flipped (bit 11 entry) (y % 8))
+    ≡ nibble_at i (vram_byte v (background_space layer.engine) (text_base layer + tile_offset layer entry y + i / 2))
 unfolding text_index
-index_16 v layer entry i y h = rw h refl
+index_16 v layer entry i y h =
+    let line : ℕ = flipped (bit 11 entry) (y % 8) in
+    let place : text_base layer + 32 * (entry % 2 ^ 10) + 4 * line + i / 2 ≡ text_base layer + (32 * (entry % 2 ^ 10) + 4 * line) + i / 2 = omega arith in
+    rw h (ap (λ (at : ℕ). nibble_at i (vram_byte v (background_space layer.engine) at)) place)
 
 pub index_256 : (v : Banks) (layer : TextLayer) (entry i y : ℕ) → has_256 layer ≡ true →
-    text_index v layer entry i (flipped (bit 11 entry) (y % 8)) ≡ vram_byte v (background_space layer.engine) (tile_row layer entry y + i)
+    text_index v layer entry i (flipped (bit 11 entry) (y % 8)) ≡ vram_byte v (background_space layer.engine) (text_base layer + tile_offset layer entry y + i)
 unfolding text_index
-index_256 v layer entry i y h = rw h refl
+index_256 v layer entry i y h =
+    let line : ℕ = flipped (bit 11 entry) (y % 8) in
+    let place : text_base layer + 64 * (entry % 2 ^ 10) + 8 * line + i ≡ text_base layer + (64 * (entry % 2 ^ 10) + 8 * line) + i = omega arith in
+    rw h (ap (vram_byte v (background_space layer.engine)) place)
 
 pub indices_of_256 : (v : Banks) (layer : TextLayer) (y : ℕ) (entries indices : List ℕ) → has_256 layer ≡ true →
-    ((k i : ℕ) → k < 33 → i < 8 → get_or indices (8 * k + i) 0 ≡ vram_byte v (background_space layer.engine) (tile_row layer (get_or entries k 0) y + i)) →
+    ((k i : ℕ) → k < 33 → i < 8 → get_or indices (8 * k + i) 0 ≡ vram_byte v (background_space layer.engine) (text_base layer + tile_offset layer (get_or entries k 0) y + i)) →
     AreIndices v layer y entries indices
 indices_of_256 v layer y entries indices wide packed k i known small =
     packed k i known small ∙ sym (index_256 v layer (get_or entries k 0) i y wide)

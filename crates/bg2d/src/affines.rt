@@ -1,13 +1,14 @@
 //! Rows of affine backgrounds.
 
-ghost use Rattle.std.specs.Prelude.{◌≡◌, ◌<◌, ◌≤◌, ℕ, length, slice_index};
-ghost use Rattle.vram_banks.specs.Colours.{HasForm};
+ghost use Rattle.std.specs.Prelude.{◌≡◌, ◌<◌, ◌≤◌, ◌%◌, ℕ, true, length, slice_index};
+ghost use Rattle.vram_banks.specs.Colours.{HasForm, IsTable};
+ghost use Rattle.bg2d.specs.rows.Tiling.{affine_map, affine_base, IsMapRun, IsAffineRun};
 ghost use Rattle.bg2d.specs.AffinePixels.{affine_size, affine_point_pixel, affine_pixel};
 
 use crate::layers::AffineLayer;
 use vram_banks::{
-    Row, Vram, affine_coordinate, background_space, byte, colour_pixel, map_base, place_within,
-    tile_base,
+    Row, Vram, affine_coordinate, background_space, byte_within, fill_table, map_base,
+    place_within, tile_base,
 };
 
 /// The size in pixels, the same both ways.
@@ -24,26 +25,84 @@ fn affine_size(layer: &AffineLayer) -> u32
     }
 }
 
-/// The pixel of a point of the background.
+/// The map's base.
+#[inline(always)]
+fn affine_map(layer: &AffineLayer) -> u32
+    ensures value { result ≡ affine_map layer.now }
+    ensures small { result < 0x90000 }
+{
+    map_base(layer.engine, layer.display, layer.control)
+}
+
+/// The tiles' base.
+#[inline(always)]
+fn affine_base(layer: &AffineLayer) -> u32
+    ensures value { result ≡ affine_base layer.now }
+    ensures whole { result % 8192 ≡ 0 }
+    ensures small { result < 0xC0000 }
+{
+    tile_base(layer.engine, layer.display, layer.control)
+}
+
+/// The bytes that one bank alone has from the first address of the map's first page on.
+fn map_run<'a>(vram: &'a Vram, layer: &AffineLayer) -> &'a [u8]
+    ensures { IsMapRun vram.now layer.now result.now }
+{
+    let map = affine_map(layer);
+    vram.run(background_space(layer.engine), map - map % 0x2000, 0x6000)
+}
+
+/// The bytes of tiles that one bank alone has, from the tiles' base on.
+fn tile_run<'a>(vram: &'a Vram, layer: &AffineLayer) -> &'a [u8]
+    ensures { IsAffineRun vram.now layer.now result.now }
+{
+    vram.run(background_space(layer.engine), affine_base(layer), 0x4000)
+}
+
+/// The pixel of a point of the background, by those of the palette's colours.
+#[inline(always)]
 #[tactic(auto, unfolding(crate::specs::AffinePixels::affine_point_pixel))]
-fn affine_point_pixel(vram: &Vram, palette: &[u8], layer: &AffineLayer, x: u32, y: u32) -> u16
-    requires colours { length palette.now ≡ 512 }
+fn affine_point_pixel(
+    vram: &Vram,
+    palette: &[u8],
+    table: &[u16; 256],
+    layer: &AffineLayer,
+    maps: &[u8],
+    tiles: &[u8],
+    x: u32,
+    y: u32,
+) -> u16
+    requires table { IsTable true palette.now table.now }
+    requires maps { IsMapRun vram.now layer.now maps.now }
+    requires tiles { IsAffineRun vram.now layer.now tiles.now }
     requires across { x < 1024 }
     requires down { y < 1024 }
     ensures { result ≡ affine_point_pixel vram.now palette.now layer.now x y }
 {
     let space = background_space(layer.engine);
-    let map = map_base(layer.engine, layer.display, layer.control);
-    let tiles = tile_base(layer.engine, layer.display, layer.control);
-    let tile = byte(vram, space, map + affine_size(layer) / 8 * (y / 8) + x / 8);
-    let index = byte(vram, space, tiles + 64 * tile as u32 + 8 * (y % 8) + x % 8);
-    colour_pixel(palette, index)
+    let map = affine_map(layer);
+    let entry = map % 0x2000 + affine_size(layer) / 8 * (y / 8) + x / 8;
+    let tile = byte_within(vram, space, maps, map - map % 0x2000, entry);
+    let texel = 64 * tile as u32 + 8 * (y % 8) + x % 8;
+    let index = byte_within(vram, space, tiles, affine_base(layer), texel);
+    table[index as usize]
 }
 
 /// The pixel that the background has at place x of the line.
+#[inline(always)]
 #[tactic(auto, unfolding(crate::specs::AffinePixels::affine_pixel))]
-fn affine_pixel(vram: &Vram, palette: &[u8], layer: &AffineLayer, x: u8) -> u16
-    requires { length palette.now ≡ 512 }
+fn affine_pixel(
+    vram: &Vram,
+    palette: &[u8],
+    table: &[u16; 256],
+    layer: &AffineLayer,
+    maps: &[u8],
+    tiles: &[u8],
+    x: u8,
+) -> u16
+    requires table { IsTable true palette.now table.now }
+    requires maps { IsMapRun vram.now layer.now maps.now }
+    requires tiles { IsAffineRun vram.now layer.now tiles.now }
     ensures { result ≡ affine_pixel vram.now palette.now layer.now x }
 {
     let wraps = (layer.control >> 13) % 2 == 1;
@@ -54,7 +113,7 @@ fn affine_pixel(vram: &Vram, palette: &[u8], layer: &AffineLayer, x: u8) -> u16
         None => 0,
         Some(x) => match down {
             None => 0,
-            Some(y) => affine_point_pixel(vram, palette, layer, x, y),
+            Some(y) => affine_point_pixel(vram, palette, table, layer, maps, tiles, x, y),
         },
     }
 }
@@ -67,7 +126,13 @@ pub fn affine_row(vram: &Vram, palette: &[u8], layer: &AffineLayer, into: &mut R
     ensures row { (x : ℕ) → x < 256 → slice_index into.new.pixels x ≡ affine_pixel vram.now palette.now layer.now x }
     ensures form { (x : ℕ) → x < 256 → HasForm (slice_index into.new.pixels x) }
 {
+    // a copy, so that no store into the row can change what the points are told by
+    let shown = *layer;
+    let mut table = [0; 256];
+    fill_table(palette, true, &mut table);
+    let maps = map_run(vram, &shown);
+    let tiles = tile_run(vram, &shown);
     for x in 0..256usize {
-        into.pixels[x] = affine_pixel(vram, palette, layer, x as u8);
+        into.pixels[x] = affine_pixel(vram, palette, &table, &shown, maps, tiles, x as u8);
     }
 }

@@ -7,12 +7,12 @@ ghost use Rattle.ds_base.specs.declared.memories.Width.TheVariants.{Half};
 ghost use Rattle.bg2d.specs.TextPixels.{text_width, text_height, has_256, palette_slot, text_entry, text_colour, text_entry_pixel, text_pixel};
 ghost use Rattle.vram_banks.specs.Colours.{indexed_pixel, HasForm, IsTable};
 ghost use Rattle.vram_banks.specs.Tiles.{flipped};
-ghost use Rattle.bg2d.specs.rows.Tiling.{block_line, is_extended, tile_row, AreBlockLines, AreEntries, IsBlockLine, AreIndices, ArePainted, AreTiles, IsKept};
+ghost use Rattle.bg2d.specs.rows.Tiling.{block_line, is_extended, text_base, tile_offset, AreBlockLines, AreEntries, IsBlockLine, AreIndices, ArePainted, AreTiles, IsKept, IsTileRun};
 
 use crate::layers::TextLayer;
 use vram_banks::{
-    Row, Vram, background_palette_space, background_space, copy_eight, fill_table, flipped,
-    map_base, paint_by_table, paint_nibbles, paint_standard, row_word, tile_base,
+    Row, Vram, background_palette_space, background_space, copy_eight_within, fill_table, flipped,
+    map_base, paint_by_table, paint_nibbles, paint_standard, row_word_within, tile_base,
 };
 
 /// How many tiles a row touches: 256 pixels, and a tile's part at either end.
@@ -113,20 +113,37 @@ fn text_entries(vram: &Vram, layer: &TextLayer, first: u32, y: u32, into: &mut [
     }
 }
 
-/// Where the row of an entry's tile begins that shows line y of the background.
-fn tile_row(layer: &TextLayer, entry: u16, y: u32) -> u32
-    ensures value { result ≡ tile_row layer.now entry y }
+/// How far past the tiles' base the row of an entry's tile begins that shows line y of the background.
+#[inline(always)]
+fn tile_offset(layer: &TextLayer, entry: u16, y: u32) -> u32
+    ensures value { result ≡ tile_offset layer.now entry y }
     ensures whole { result % 4 ≡ 0 }
-    ensures small { result < 0x100000 }
+    ensures small { result < 0x10000 }
 {
-    let base = tile_base(layer.engine, layer.display, layer.control);
     let line = flipped((entry >> 11) % 2 == 1, y as usize % 8) as u32;
     let tile = (entry % 0x400) as u32;
     if has_256(layer) {
-        base + 64 * tile + 8 * line
+        64 * tile + 8 * line
     } else {
-        base + 32 * tile + 4 * line
+        32 * tile + 4 * line
     }
+}
+
+/// The tiles' base.
+#[inline(always)]
+fn text_base(layer: &TextLayer) -> u32
+    ensures value { result ≡ text_base layer.now }
+    ensures whole { result % 8192 ≡ 0 }
+    ensures small { result < 0xC0000 }
+{
+    tile_base(layer.engine, layer.display, layer.control)
+}
+
+/// The bytes of tiles that one bank alone has, from the tiles' base on.
+fn tile_run<'a>(vram: &'a Vram, layer: &TextLayer) -> &'a [u8]
+    ensures { IsTileRun vram.now layer.now result.now }
+{
+    vram.run(background_space(layer.engine), text_base(layer), 0x10000)
 }
 
 fn has_256(layer: &TextLayer) -> bool
@@ -141,9 +158,11 @@ fn copy_rows(vram: &Vram, layer: &TextLayer, entries: &[u16; TILES], y: u32, int
     ensures { AreIndices vram.now layer.now y entries.now into.new }
 {
     let space = background_space(layer.engine);
+    let base = text_base(layer);
+    let run = tile_run(vram, layer);
     for k in 0..TILES {
-        let at = tile_row(layer, entries[k], y);
-        copy_eight(vram, space, at, &mut into[8 * k..8 * k + 8]);
+        let offset = tile_offset(layer, entries[k], y);
+        copy_eight_within(vram, space, run, base, offset, &mut into[8 * k..8 * k + 8]);
     }
 }
 
@@ -179,17 +198,25 @@ fn paint_narrow_tile(
     palette: &[u8],
     table: &[u16; 256],
     layer: &TextLayer,
+    run: &[u8],
     entry: u16,
     y: u32,
     into: &mut [u16],
 )
+    requires run { IsTileRun vram.now layer.now run.now }
     requires narrow { has_256 layer.now ≡ false }
     requires table { IsTable false palette.now table.now }
     requires room { length into.old ≡ 8 }
     ensures { (i : ℕ) → i < 8 → slice_index into.new i ≡ text_entry_pixel vram.now palette.now layer.now entry i y }
 {
-    let at = tile_row(layer, entry, y);
-    let word = row_word(vram, background_space(layer.engine), at);
+    let space = background_space(layer.engine);
+    let word = row_word_within(
+        vram,
+        space,
+        run,
+        text_base(layer),
+        tile_offset(layer, entry, y),
+    );
     let start = 16 * (entry >> 12) as usize;
     paint_nibbles(table, start, flips_across(entry), word, into);
 }
@@ -209,12 +236,14 @@ fn paint_narrow(
 {
     let mut table = [0; 256];
     fill_table(palette, false, &mut table);
+    let run = tile_run(vram, layer);
     for k in 0..TILES {
         paint_narrow_tile(
             vram,
             palette,
             &table,
             layer,
+            run,
             entries[k],
             y,
             &mut into[8 * k..8 * k + 8],

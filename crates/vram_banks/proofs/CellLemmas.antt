@@ -2,11 +2,14 @@ use Rattle.vram_banks.proofs.Words.{ℕ, zero, suc, ◌≡◌, ◌≢◌, ◌<�
 use Rattle.vram_banks.proofs.Words.{subst, arith, slice_index, slice_set, drop, same_or_not, Width, Byte, Half, Word, Empty, One, width_bytes}
 use Rattle.vram_banks.proofs.Words.{value_by, put_by, cell_of, or_at, put_in_cells, NoneBelow, IsFound, Banks, byte_or_0, or_below, put_there}
 use Rattle.vram_banks.proofs.Words.{put_below}
+use Rattle.vram_banks.proofs.Words.{◌≤◌, ABg, ABgPalette, AObj, AObjPalette, Arm7, BBg, BBgPalette, BObj, BObjPalette, Lcdc, Space, space_size}
 use Rattle.std.proofs.Common.{add-one, bit_or}
+use Rattle.std.proofs.lemmas.Bool.{cases_lt}
+use Rattle.vram_banks.specs.declared.maps.CellRun.{CellRun}
 use lib.Bits.{or_zero_r, or_zero_l}
 use Rattle.std.specs.List.{slice_range}
 use Rattle.std.proofs.lemmas.List.{get_or-take, get_or-drop}
-use Rattle.vram_banks.specs.paging.Pages.{OneBelow}
+use Rattle.vram_banks.specs.paging.Pages.{OneBelow, IsCellRun}
 
 pub or_none : (f : ℕ → ℕ) → or_below 0 f ≡ 0
 unfolding or_below
@@ -166,3 +169,37 @@ part_of_one controls bytes x cell i h small = or_at-one controls bytes (x + i) (
 
 pub index_of_range : (bytes : List ℕ) (cell n i : ℕ) → i < n → get_or (slice_range bytes cell (cell + n)) i 0 ≡ get_or bytes (cell + i) 0
 index_of_range bytes cell n i lt = get_or-take (cell + n - cell) (drop cell bytes) i 0 (omega arith) ∙ get_or-drop cell bytes i 0
+
+-- ---- a run of cells
+
+pub run_none : (controls : List ℕ) (x first : ℕ) → first ≤ 0xA4000 → IsCellRun controls x (record { first = first; size = 0 })
+run_none controls x first le = record { room = omega (arith, le); each = λ i lt. absurd (omega (arith, lt)) }
+
+-- it goes on by the page that follows
+pub run_more : (controls : List ℕ) (x first size : ℕ) → (x + size) % 8192 ≡ 0 → IsCellRun controls x (record { first = first; size = size }) →
+    IsFound controls (x + size) (One (first + size)) → IsCellRun controls x (record { first = first; size = size + 8192 })
+run_more controls x first size whole run found = record {
+  room = (let room = found.0 in omega (arith, whole, room));
+  each = λ i lt. elim (cases_lt i size) [
+    | inl below ↦ run.each i below
+    | inr past ↦ one_at controls (x + size) (first + size) (i - size) (x + i) (first + i) found (omega (arith, whole, lt)) (omega (arith, past)) (omega (arith, past))
+  ];
+}
+
+-- its bytes are what is read there
+pub run_byte : (controls bytes : List ℕ) (x : ℕ) (run : CellRun) (i : ℕ) → IsCellRun controls x run → i < run.size →
+    get_or (slice_range bytes run.first (run.first + run.size)) i 0 ≡ or_at controls bytes (x + i)
+run_byte controls bytes x run i is lt =
+    index_of_range bytes run.first run.size i lt ∙ sym (or_at-one controls bytes (x + i) (run.first + i) (is.each i lt))
+
+pub in_rest : (space : Space) (at i : ℕ) → i < space_size space - at % space_size space → (at + i) % space_size space ≡ at % space_size space + i
+in_rest ABg at i lt = omega (arith, lt)
+in_rest BBg at i lt = omega (arith, lt)
+in_rest AObj at i lt = omega (arith, lt)
+in_rest BObj at i lt = omega (arith, lt)
+in_rest Lcdc at i lt = omega (arith, lt)
+in_rest Arm7 at i lt = omega (arith, lt)
+in_rest ABgPalette at i lt = omega (arith, lt)
+in_rest BBgPalette at i lt = omega (arith, lt)
+in_rest AObjPalette at i lt = omega (arith, lt)
+in_rest BObjPalette at i lt = omega (arith, lt)

@@ -129,3 +129,7 @@ pub record IsWritten (old new : Banks) (space : Space) (at : ℕ) (width : Width
       ≡ value / 256 ^ k % 256
   pub others : (cell : ℕ) → ((k : ℕ) → k < width_bytes width → ¬ IsCellAt old space (aligned_down width at + k) cell) → slice_index new.bytes cell
       ≡ slice_index old.bytes cell
+
+-- bytes are those at the addresses of a space from one on, as many as they are
+abbrev pub IsRunOf : Banks → Space → ℕ → List ℕ → Type 0
+IsRunOf v space at bytes = (i : ℕ) → i < length bytes → slice_index bytes i ≡ vram_byte v space (at + i)

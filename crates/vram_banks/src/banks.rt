@@ -5,14 +5,14 @@ ghost use Rattle.ds_base.specs.declared.memories.Width.TheVariants.{Byte, Half, 
 ghost use Rattle.ds_base.specs.declared.memories.Space.TheVariants.{Arm7};
 ghost use Rattle.ds_base.specs.Numbers.{width_bytes, aligned_down, value_by, put_by};
 ghost use Rattle.vram_banks.specs.BankMap.{kept_bank_control, StandsIn};
-ghost use Rattle.vram_banks.specs.Cells.{Banks, AreBanks, blank_banks, byte_or_0, put_there, vram_byte, vram_value, vram_written, allotted_bit, allotted_of, is_allotted, IsCellAt, IsOr, IsRead, IsWritten};
+ghost use Rattle.vram_banks.specs.Cells.{Banks, AreBanks, blank_banks, byte_or_0, put_there, vram_byte, vram_value, vram_written, allotted_bit, allotted_of, is_allotted, IsCellAt, IsOr, IsRead, IsRunOf, IsWritten};
 ghost use Rattle.vram_banks.specs.paging.Flat.{or_at, put_in_cells};
 
 mod saved;
 
 use crate::cells::Cells;
 use crate::maps::{BankMap, PAGE, Page};
-use crate::windows::{LARGEST, flat};
+use crate::windows::{LARGEST, flat, rest_of};
 use ds_base::{Space, Width, known};
 use std::alloc::{AllocError, Global};
 use std::marker::Model;
@@ -321,6 +321,18 @@ impl Vram {
             self.part(x, &mut into[done..done + count]);
             done += count;
         }
+    }
+
+    /// The bytes that one bank alone has in a row from an address of a space on, from where they lie: at most `most`, none of them past
+    /// the space's end, and none at all where another bank stands there too, or no bank.
+    pub fn run(&self, space: Space, at: u32, most: u32) -> &[u8]
+        requires { at % 8192 ≡ 0 }
+        ensures { IsRunOf self.now space at result.now }
+    {
+        // here the proof learns how many bytes there are
+        let _ = &self.cells;
+        let run = self.map.run(flat(space, at), rest_of(space, at).min(most));
+        self.cells.part(run.first, run.size)
     }
 
     /// Does nothing; its contract tells that the bytes are 671,744 and the controls nine, each below 256 and with no bits but those

@@ -43,6 +43,15 @@ fn are_narrow(bytes: &[u8])
     known!(bytes);
 }
 
+/// The word at a place, by one load.
+#[inline(always)]
+pub fn word_at(bytes: &[u8], at: usize) -> u32
+    requires { at + 4 ≤ length bytes.now }
+    ensures { result ≡ value_by Word (slice_index bytes.now) at }
+{
+    u32::from_le_bytes([bytes[at], bytes[at + 1], bytes[at + 2], bytes[at + 3]])
+}
+
 /// Puts a half at a place, by one store.
 #[inline(always)]
 #[tactic(auto, using(crate::proofs::Puts::two_put))]
@@ -115,13 +124,7 @@ impl Cells {
         requires { at + 4 ≤ 0xA4000 }
         ensures { result ≡ value_by Word (slice_index self.now) at }
     {
-        let at = at as usize;
-        u32::from_le_bytes([
-            self.bytes[at],
-            self.bytes[at + 1],
-            self.bytes[at + 2],
-            self.bytes[at + 3],
-        ])
+        word_at(&self.bytes, at as usize)
     }
 
     pub fn put_byte(&mut self, at: u32, value: u8)
@@ -143,6 +146,15 @@ impl Cells {
         ensures { self.new ≡ put_by Word (λ a x bytes. slice_set bytes a x) at value self.old }
     {
         put_word(&mut self.bytes, at as usize, value);
+    }
+
+    /// So many bytes from a place on, from where they lie.
+    pub fn part(&self, at: u32, count: u32) -> &[u8]
+        requires { at + count ≤ 0xA4000 }
+        ensures value { result.now ≡ slice_range self.now at (at + count) }
+        ensures long { length result.now ≡ count }
+    {
+        &self.bytes[at as usize..(at + count) as usize]
     }
 
     /// Copies the bytes from a place on.

@@ -2,7 +2,7 @@
 
 ghost use Rattle.std.specs.Prelude.{◌≡◌, ◌<◌, ◌≤◌, ◌+◌, ◌*◌, ◌/◌, ◌%◌, ◌^◌, ◌==◌, if◌then◌else◌, ℕ, length, map, bit_and, slice_index};
 ghost use Rattle.ds_base.specs.declared.memories.Width.TheVariants.{Half};
-ghost use Rattle.vram_banks.specs.Cells.{vram_byte, vram_value};
+ghost use Rattle.vram_banks.specs.Cells.{vram_byte, vram_value, IsRunOf};
 ghost use Rattle.vram_banks.specs.Colours.{opaque_pixel, indexed_pixel, palette_colour, extended_colour, IsTable};
 ghost use Rattle.vram_banks.specs.Tiles.{flipped};
 
@@ -42,6 +42,20 @@ pub fn byte(vram: &Vram, space: Space, at: u32) -> u8
     ensures { result ≡ vram_byte vram.now space at }
 {
     vram.read_in_line(space, at, Width::Byte) as u8
+}
+
+/// The byte `offset` bytes past `base`, from where the bytes from there on lie if `run` has it.
+#[inline(always)]
+pub fn byte_within(vram: &Vram, space: Space, run: &[u8], base: u32, offset: u32) -> u8
+    requires run { IsRunOf vram.now space base run.now }
+    requires small { base + offset < 2 ^ 32 }
+    ensures { result ≡ vram_byte vram.now space (base + offset) }
+{
+    if (offset as usize) < run.len() {
+        run[offset as usize]
+    } else {
+        byte(vram, space, base + offset)
+    }
 }
 
 /// The pixel of an index by a standard palette whose colours begin at `start`.

@@ -15,12 +15,13 @@
 //! Proved. `read`: the number whose bytes are those at the addresses from `at` on, aligned down (clause `value`), as narrow as the access
 //! (`narrow`); each is the OR of exactly the cells that stand at its address, taken by remainder of the space's size, and 0 where none
 //! stands (`stands`). `write`: each byte goes into every cell that stands at its address (`value`), and every other cell and all controls
-//! are as before (`changed`). `row`: place i has the byte at the exact sum `at` + i. `set_control`: the control keeps MST, OFS and bit 7 of
-//! what is written. `bank_laws`: 671,744 bytes and nine controls, each with no bits but those that its bank keeps; a cell that stands at an
-//! address of a space lies in a bank that is allotted to ARM7 exactly where the space is ARM7's (`allotted`). `allotted7`, `c`, `d`: bit 0
-//! is 1 exactly where C stands somewhere in ARM7's space, bit 1 where D does. `pack` and `unpack`: the bytes of all banks and controls, and
-//! what is read of bytes, by one format (`specs/Saved`); `saved_laws`: its bytes are read as it was, and bytes that are read are its bytes.
-//! `Vram::new`, `pack` and `unpack` alone take memory.
+//! are as before (`changed`). `row`: place i has the byte at the exact sum `at` + i. `run`: so has each place of what it answers; how many
+//! there are isn't promised. `set_control`: the control keeps MST, OFS and bit 7 of what is written. `bank_laws`: 671,744 bytes and nine
+//! controls, each with no bits but those that its bank keeps; a cell that stands at an address of a space lies in a bank that is allotted
+//! to ARM7 exactly where the space is ARM7's (`allotted`). `allotted7`, `c`, `d`: bit 0 is 1 exactly where C stands somewhere in ARM7's
+//! space, bit 1 where D does. `pack` and `unpack`: the bytes of all banks and controls, and what is read of bytes, by one format
+//! (`specs/Saved`); `saved_laws`: its bytes are read as it was, and bytes that are read are its bytes. `Vram::new`, `pack` and `unpack`
+//! alone take memory.
 //!
 //! Only tested: that the table is the console's (for every MST and OFS both ends of each page of the space, with one byte before it and one
 //! past it; textures' MSTs seen nowhere; each space's size), and that `new` succeeds with ample memory.
@@ -40,10 +41,10 @@ mod windows;
 pub use banks::Vram;
 pub use bases::{background_palette_space, background_space, map_base, tile_base};
 pub use colours::{
-    byte, colour_pixel, extended_pixel, fill_table, half, opaque_pixel, paint_by_table,
-    paint_nibbles, paint_standard, palette_colour, standard_pixel,
+    byte, byte_within, colour_pixel, extended_pixel, fill_table, half, opaque_pixel,
+    paint_by_table, paint_nibbles, paint_standard, palette_colour, standard_pixel,
 };
 pub use points::{affine_coordinate, place_within};
 pub use rows::Row;
 pub use saved::saved_laws;
-pub use tiles::{copy_eight, flipped, row_word};
+pub use tiles::{copy_eight, copy_eight_within, flipped, row_word, row_word_within};

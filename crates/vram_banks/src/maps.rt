@@ -1,10 +1,11 @@
 //! The controls of the nine banks, and which cells stand at a flat address by them.
 
-ghost use Rattle.std.specs.Prelude.{◌≡◌, length, ◌<◌, ◌-◌, ℕ, IfSome, slice_index, slice_set, [], ◌∷◌};
+ghost use Rattle.std.specs.Prelude.{◌≡◌, length, ◌<◌, ◌≤◌, ◌+◌, ◌-◌, ◌%◌, ℕ, true, IfSome, slice_index, slice_set, [], ◌∷◌};
 ghost use Rattle.vram_banks.specs.BankMap.{first_cell, kept_bank_control};
 ghost use Rattle.vram_banks.specs.Cells.{IsControl};
 ghost use Rattle.vram_banks.specs.paging.Flat.{cell_in, cell_of, IsRoomy};
-ghost use Rattle.vram_banks.specs.paging.Pages.{window_at, cell_among, with_cell, IsPageBelow, AreWindows, ArePages, IsFound};
+ghost use Rattle.vram_banks.specs.paging.Pages.{window_at, cell_among, with_cell, IsPageBelow, AreWindows, ArePages, IsFound, IsCellRun};
+ghost use Rattle.vram_banks.specs.declared.maps.Page.TheVariants.{One};
 
 use crate::windows::{Window, bank_window, first_cell, kept_bank_control, nowhere};
 use std::marker::Model;
@@ -24,6 +25,15 @@ pub enum Page {
     One(u32),
     /// Several banks.
     Several,
+}
+
+/// Cells in a row that one bank alone has.
+#[derive(Clone, Copy)]
+pub struct CellRun {
+    /// The first of them, in the memory of all banks.
+    pub first: u32,
+    /// How many.
+    pub size: u32,
 }
 
 /// The cell of a bank that stands at a flat address.
@@ -164,6 +174,46 @@ impl BankMap {
             Page::Empty => Page::Empty,
             Page::One(cell) => Page::One(cell + x % PAGE as u32),
             Page::Several => Page::Several,
+        }
+    }
+
+    /// Whether one bank alone stands at a flat address, with this cell.
+    fn has_alone(&self, x: u32, cell: u32) -> bool
+        requires { x < 0x254000 }
+        ensures { result ≡ true → IsFound self.now x (One cell) }
+    {
+        match self.found(x) {
+            Page::One(other) => other == cell,
+            _ => false,
+        }
+    }
+
+    /// The cells from a cell on that one bank alone has in a row, from the first address of a page on, page by page: at most `most`.
+    fn run_from(&self, x: u32, first: u32, most: u32) -> CellRun
+        requires whole { x % 8192 ≡ 0 }
+        requires inside { x + most ≤ 0x254000 }
+        requires first { first ≤ 0xA4000 }
+        ensures run { IsCellRun self.now x result }
+        ensures most { result.size ≤ most }
+    {
+        let mut size = 0;
+        while most - size >= PAGE as u32 && self.has_alone(x + size, first + size) {
+            size += PAGE as u32;
+        }
+        CellRun { first, size }
+    }
+
+    /// The same, from what stands there; none where that isn't one bank alone.
+    pub fn run(&self, x: u32, most: u32) -> CellRun
+        requires whole { x % 8192 ≡ 0 }
+        requires small { x < 0x254000 }
+        requires inside { x + most ≤ 0x254000 }
+        ensures run { IsCellRun self.now x result }
+        ensures most { result.size ≤ most }
+    {
+        match self.found(x) {
+            Page::One(cell) => self.run_from(x, cell, most),
+            _ => CellRun { first: 0, size: 0 },
         }
     }
 }

@@ -67,6 +67,14 @@ pub fn flat(space: Space, at: u32) -> u32
     origin(space) + (at & mask(space))
 }
 
+/// How many bytes a space has from an address on, which is taken by remainder of its size.
+#[inline(always)]
+pub fn rest_of(space: Space, at: u32) -> u32
+    ensures { result ≡ space_size space - at % space_size space }
+{
+    mask(space) - (at & mask(space)) + 1
+}
+
 /// Where a bank's bytes begin in the memory of all banks.
 #[tactic(auto, unfolding(crate::specs::BankMap::first_cell))]
 pub fn first_cell(bank: u8) -> u32

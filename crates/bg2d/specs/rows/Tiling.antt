@@ -1,6 +1,7 @@
-use Rattle.std.specs.Prelude.{ℕ, Bool, ◌&&◌, ◌≡◌, ◌<◌, ◌+◌, ◌*◌, ◌/◌, ◌%◌, ◌^◌, if◌then◌else◌, List, slice_index}
+use Rattle.std.specs.Prelude.{ℕ, Bool, ◌&&◌, ◌≡◌, ◌<◌, ◌+◌, ◌-◌, ◌*◌, ◌/◌, ◌%◌, ◌^◌, if◌then◌else◌, List, slice_index}
 use Rattle.ds_base.specs.Bits.{bit}
-use Rattle.vram_banks.specs.Cells.{Banks, vram_byte}
+use Rattle.vram_banks.specs.Cells.{Banks, vram_byte, IsRunOf}
+use Rattle.bg2d.specs.declared.layers.AffineLayer.{AffineLayer}
 use Rattle.bg2d.specs.declared.layers.TextLayer.{TextLayer}
 use Rattle.bg2d.specs.declared.texts.KeptPalette.{KeptPalette}
 use Rattle.vram_banks.specs.Bases.{background_space, background_palette_space, map_base, tile_base}
@@ -24,12 +25,18 @@ AreBlockLines v layer y bytes n =
     (h i : ℕ) → h < n → i < 64 →
     slice_index bytes (64 * h + i) ≡ vram_byte v (background_space layer.engine) (block_line layer (256 * h % text_width layer) y + i)
 
--- where the row of an entry's tile begins that shows line y of the background
-abbrev pub tile_row : TextLayer → ℕ → ℕ → ℕ
-tile_row layer entry y =
-    let base = tile_base layer.engine layer.display layer.control in
+-- how far past the tiles' base the row of an entry's tile begins that shows line y of the background
+abbrev pub tile_offset : TextLayer → ℕ → ℕ → ℕ
+tile_offset layer entry y =
     let line = flipped (bit 11 entry) (y % 8) in
-    if has_256 layer then base + 64 * (entry % 2 ^ 10) + 8 * line else base + 32 * (entry % 2 ^ 10) + 4 * line
+    if has_256 layer then 64 * (entry % 2 ^ 10) + 8 * line else 32 * (entry % 2 ^ 10) + 4 * line
+
+abbrev pub text_base : TextLayer → ℕ
+text_base layer = tile_base layer.engine layer.display layer.control
+
+-- bytes are those from the tiles' base on, as many as they are
+abbrev pub IsTileRun : Banks → TextLayer → List ℕ → Type 0
+IsTileRun v layer bytes = IsRunOf v (background_space layer.engine) (text_base layer) bytes
 
 -- the entries of 33 tiles, from the tile on whose left edge is `first`
 abbrev pub AreEntries : Banks → TextLayer → ℕ → ℕ → List ℕ → ℕ → Type 0
@@ -64,3 +71,19 @@ is_extended layer = has_256 layer && bit 30 layer.display
 -- an extended palette was read where it says
 abbrev pub IsKept : Banks → TextLayer → KeptPalette → Type 0
 IsKept v layer kept = (i : ℕ) → i < 512 → slice_index kept.bytes i ≡ vram_byte v (background_palette_space layer.engine) (kept.at + i)
+
+-- ---- affine backgrounds
+
+abbrev pub affine_map : AffineLayer → ℕ
+affine_map layer = map_base layer.engine layer.display layer.control
+
+abbrev pub affine_base : AffineLayer → ℕ
+affine_base layer = tile_base layer.engine layer.display layer.control
+
+-- bytes are those from the first address of the map's first page of 8K on, as many as they are
+abbrev pub IsMapRun : Banks → AffineLayer → List ℕ → Type 0
+IsMapRun v layer bytes = IsRunOf v (background_space layer.engine) (affine_map layer - affine_map layer % 8192) bytes
+
+-- bytes are those from the tiles' base on, likewise
+abbrev pub IsAffineRun : Banks → AffineLayer → List ℕ → Type 0
+IsAffineRun v layer bytes = IsRunOf v (background_space layer.engine) (affine_base layer) bytes

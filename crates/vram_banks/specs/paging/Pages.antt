@@ -1,6 +1,7 @@
 use Rattle.std.specs.Prelude.{ℕ, ◌≡◌, ◌≢◌, ◌<◌, ◌≤◌, ◌+◌, ◌-◌, ◌*◌, ◌%◌, List, Option, Some, None, slice_index, slice_index_or}
 use Rattle.vram_banks.specs.declared.windows.Window.{Window}
 use Rattle.vram_banks.specs.declared.maps.Page.{Page}
+use Rattle.vram_banks.specs.declared.maps.CellRun.{CellRun}
 use Rattle.vram_banks.specs.declared.maps.Page.TheVariants.{Empty, One, Several}
 use Rattle.vram_banks.specs.BankMap.{first_cell}
 use Rattle.vram_banks.specs.paging.Flat.{no_window, window_of, cell_in, cell_of, IsRoomy}
@@ -55,3 +56,8 @@ IsFound controls x (One cell) =
     (cell + (8192 - x % 8192) ≤ 0xA4000)
     × ((j : ℕ) → x % 8192 + j < 8192 → OneBelow (λ bank. cell_of controls bank (x + j)) 9 (cell + j))
 IsFound controls x Several = Unit {0}
+
+-- one bank alone stands at all of so many flat addresses, with cells in a row
+pub record IsCellRun (controls : List ℕ) (x : ℕ) (run : CellRun) : Type 0 where
+  pub room : run.first + run.size ≤ 0xA4000
+  pub each : (i : ℕ) → i < run.size → OneBelow (λ bank. cell_of controls bank (x + i)) 9 (run.first + i)

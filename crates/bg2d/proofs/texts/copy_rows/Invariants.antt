@@ -1,9 +1,9 @@
 use Rattle.std.proofs.Common.{ℕ, ◌≡◌, ◌<◌, ◌+◌, ◌*◌, get_or}
 use Rattle.vram_banks.specs.Bases.{background_space}
 use Rattle.vram_banks.specs.Cells.{vram_byte}
-use Rattle.bg2d.specs.rows.Tiling.{tile_row}
+use Rattle.bg2d.specs.rows.Tiling.{text_base, tile_offset}
 use Rattle.bg2d.proofs.texts.copy_rows.Given as goal
 
 abbrev pub invariant-loop-k : goal.invariant-loop-k
 invariant-loop-k l = (k i : ℕ) → k < l.k → i < 8 →
-    get_or l.into (8 * k + i) 0 ≡ vram_byte l.vram (background_space l.layer.engine) (tile_row l.layer (get_or l.entries k 0) l.y + i)
+    get_or l.into (8 * k + i) 0 ≡ vram_byte l.vram (background_space l.layer.engine) (text_base l.layer + tile_offset l.layer (get_or l.entries k 0) l.y + i)

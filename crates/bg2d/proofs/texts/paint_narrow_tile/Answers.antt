@@ -4,7 +4,7 @@ use Rattle.vram_banks.specs.Cells.{vram_byte}
 use Rattle.vram_banks.specs.Colours.{indexed_pixel}
 use Rattle.vram_banks.specs.Tiles.{flipped, nibble_at}
 use Rattle.bg2d.specs.TextPixels.{text_colour, text_index}
-use Rattle.bg2d.specs.rows.Tiling.{tile_row}
+use Rattle.bg2d.specs.rows.Tiling.{text_base, tile_offset}
 use Rattle.bg2d.proofs.TilingLemmas.{flipped_below, index_16, table_16}
 use Rattle.bg2d.proofs.texts.paint_narrow_tile.Goals as goal
 
@@ -14,7 +14,7 @@ returns c = λ i lt.
     let v = a.vram.now in
     let layer = a.layer.now in
     let entry : ℕ = a.entry in
-    let word : ℕ = c.row_word-word.result in
+    let word : ℕ = c.row_word_within-word.result in
     let place : ℕ = flipped (bit 10 entry) i in
     let below : place < 8 = flipped_below (bit 10 entry) i lt in
     let index : ℕ = word / 2 ^ (4 * place) % 16 in
@@ -24,9 +24,10 @@ returns c = λ i lt.
     let once : i ≡ i % 8 = omega (arith, lt) in
     let pixel : ℕ → ℕ = indexed_pixel (text_colour v a.palette.now layer entry) in
     let there : index ≡ text_index v layer entry place (flipped (bit 11 entry) (a.y % 8)) =
-    c.row_word-word.ensures place below
-    ∙ ap (λ (at : ℕ). nibble_at place (vram_byte v c.background_space.result (at + place / 2))) c.tile_row-at.ensures.value
-    ∙ ap (λ s. nibble_at place (vram_byte v s (tile_row layer entry a.y + place / 2))) c.background_space.ensures
+    c.row_word_within-word.ensures place below
+    ∙ ap (λ (base : ℕ). nibble_at place (vram_byte v c.background_space-space.result (base + c.tile_offset.result + place / 2))) c.text_base.ensures.value
+    ∙ ap (λ (offset : ℕ). nibble_at place (vram_byte v c.background_space-space.result (text_base layer + offset + place / 2))) c.tile_offset.ensures.value
+    ∙ ap (λ s. nibble_at place (vram_byte v s (text_base layer + tile_offset layer entry a.y + place / 2))) c.background_space-space.ensures
     ∙ sym (index_16 v layer entry place a.y c.requires.narrow) in
     c.paint_nibbles.ensures i lt
     ∙ ap (λ (b : Bool). get_or a.table.now (16 * (entry / 2 ^ 12) + word / 2 ^ (4 * flipped b i) % 16) 0) c.flips_across.ensures

@@ -1,2 +1,3 @@
+pub mod AffineLemmas
 pub mod FormLemmas
 pub mod TilingLemmas

@@ -1,8 +1,10 @@
 //! Rows of affine backgrounds.
 
-ghost use Rattle.std.specs.Prelude.{◌≡◌, ◌<◌, ◌≤◌, ◌%◌, ℕ, true, length, slice_index};
+ghost use Rattle.std.specs.Prelude.{◌≡◌, ◌<◌, ◌≤◌, ◌%◌, ℕ, true, Some, length, slice_index};
+ghost use Rattle.ds_base.specs.Bits.{bit};
+ghost use Rattle.vram_banks.specs.Points.{affine_coordinate, place_within};
 ghost use Rattle.vram_banks.specs.Colours.{HasForm, IsTable};
-ghost use Rattle.bg2d.specs.rows.Tiling.{affine_map, affine_base, IsMapRun, IsAffineRun};
+ghost use Rattle.bg2d.specs.rows.Tiling.{affine_map, affine_base, IsMapRun, IsAffineRun, IsAffineSize};
 ghost use Rattle.bg2d.specs.AffinePixels.{affine_size, affine_point_pixel, affine_pixel};
 
 use crate::layers::AffineLayer;
@@ -16,6 +18,7 @@ fn affine_size(layer: &AffineLayer) -> u32
     ensures value { result ≡ affine_size layer.now }
     ensures some { 128 ≤ result }
     ensures small { result ≤ 1024 }
+    ensures whole { IsAffineSize result }
 {
     match layer.control >> 14 {
         0 => 128,
@@ -118,6 +121,82 @@ fn affine_pixel(
     }
 }
 
+/// The place on a background of a size of a coordinate of the point shown at place x of a line, where the background wraps: the size divides
+/// 2^32.
+#[inline(always)]
+fn wrapped_place(size: u32, first: i32, step: i16, x: u8) -> u32
+    requires { IsAffineSize size }
+    ensures value { place_within true size (affine_coordinate first step x) ≡ Some result }
+    ensures small { result < 1024 }
+{
+    affine_coordinate(first, step, x).cast_unsigned() % size
+}
+
+/// How far across the point shown at place x of a line is on a background that wraps.
+#[inline(always)]
+fn wrapped_across(layer: &AffineLayer, x: u8) -> u32
+    ensures value { place_within true (affine_size layer.now) (affine_coordinate layer.now.x layer.now.pa x) ≡ Some result }
+    ensures small { result < 1024 }
+{
+    wrapped_place(affine_size(layer), layer.x, layer.pa, x)
+}
+
+/// How far down it is.
+#[inline(always)]
+fn wrapped_down(layer: &AffineLayer, x: u8) -> u32
+    ensures value { place_within true (affine_size layer.now) (affine_coordinate layer.now.y layer.now.pc x) ≡ Some result }
+    ensures small { result < 1024 }
+{
+    wrapped_place(affine_size(layer), layer.y, layer.pc, x)
+}
+
+/// The pixel that the background has at place x of the line, where it wraps.
+#[inline(always)]
+fn wrapped_pixel(
+    vram: &Vram,
+    palette: &[u8],
+    table: &[u16; 256],
+    layer: &AffineLayer,
+    maps: &[u8],
+    tiles: &[u8],
+    x: u8,
+) -> u16
+    requires table { IsTable true palette.now table.now }
+    requires maps { IsMapRun vram.now layer.now maps.now }
+    requires tiles { IsAffineRun vram.now layer.now tiles.now }
+    requires wraps { bit 13 layer.now.control ≡ true }
+    ensures { result ≡ affine_pixel vram.now palette.now layer.now x }
+{
+    let across = wrapped_across(layer, x);
+    let down = wrapped_down(layer, x);
+    affine_point_pixel(vram, palette, table, layer, maps, tiles, across, down)
+}
+
+/// Draws the row where the background wraps, which so has no test of a side.
+fn wrapped_row(vram: &Vram, palette: &[u8], table: &[u16; 256], layer: &AffineLayer, into: &mut Row)
+    requires table { IsTable true palette.now table.now }
+    requires wraps { bit 13 layer.now.control ≡ true }
+    ensures { (x : ℕ) → x < 256 → slice_index into.new.pixels x ≡ affine_pixel vram.now palette.now layer.now x }
+{
+    let maps = map_run(vram, layer);
+    let tiles = tile_run(vram, layer);
+    for x in 0..256usize {
+        into.pixels[x] = wrapped_pixel(vram, palette, table, layer, maps, tiles, x as u8);
+    }
+}
+
+/// Draws the row of any background.
+fn bounded_row(vram: &Vram, palette: &[u8], table: &[u16; 256], layer: &AffineLayer, into: &mut Row)
+    requires { IsTable true palette.now table.now }
+    ensures { (x : ℕ) → x < 256 → slice_index into.new.pixels x ≡ affine_pixel vram.now palette.now layer.now x }
+{
+    let maps = map_run(vram, layer);
+    let tiles = tile_run(vram, layer);
+    for x in 0..256usize {
+        into.pixels[x] = affine_pixel(vram, palette, table, layer, maps, tiles, x as u8);
+    }
+}
+
 /// Draws an affine background's row: at each place the pixel of the point that the line's first point and the steps give, exactly and
 /// cut off downwards; outside, the background begins again where bit 13 of its control is set, and is transparent else (GBATEK, "LCD I/O
 /// BG Rotation/Scaling"). `palette` has the 512 bytes of the engine's background palette.
@@ -130,9 +209,9 @@ pub fn affine_row(vram: &Vram, palette: &[u8], layer: &AffineLayer, into: &mut R
     let shown = *layer;
     let mut table = [0; 256];
     fill_table(palette, true, &mut table);
-    let maps = map_run(vram, &shown);
-    let tiles = tile_run(vram, &shown);
-    for x in 0..256usize {
-        into.pixels[x] = affine_pixel(vram, palette, &table, &shown, maps, tiles, x as u8);
+    if (shown.control >> 13) % 2 == 1 {
+        wrapped_row(vram, palette, &table, &shown, into);
+    } else {
+        bounded_row(vram, palette, &table, &shown, into);
     }
 }

@@ -1,4 +1,4 @@
-use Rattle.std.specs.Prelude.{ℕ, Bool, ◌&&◌, ◌≡◌, ◌<◌, ◌+◌, ◌-◌, ◌*◌, ◌/◌, ◌%◌, ◌^◌, if◌then◌else◌, List, slice_index}
+use Rattle.std.specs.Prelude.{ℕ, Bool, ◌⊎◌, ◌&&◌, ◌≡◌, ◌<◌, ◌+◌, ◌-◌, ◌*◌, ◌/◌, ◌%◌, ◌^◌, if◌then◌else◌, List, slice_index}
 use Rattle.ds_base.specs.Bits.{bit}
 use Rattle.vram_banks.specs.Cells.{Banks, vram_byte, IsRunOf}
 use Rattle.bg2d.specs.declared.layers.AffineLayer.{AffineLayer}
@@ -87,3 +87,7 @@ IsMapRun v layer bytes = IsRunOf v (background_space layer.engine) (affine_map l
 -- bytes are those from the tiles' base on, likewise
 abbrev pub IsAffineRun : Banks → AffineLayer → List ℕ → Type 0
 IsAffineRun v layer bytes = IsRunOf v (background_space layer.engine) (affine_base layer) bytes
+
+-- a size is one of those that affine backgrounds have, which divide 2^32
+abbrev pub IsAffineSize : ℕ → Type 0
+IsAffineSize size = (size ≡ 128) ⊎ ((size ≡ 256) ⊎ ((size ≡ 512) ⊎ (size ≡ 1024)))

@@ -1,6 +1,6 @@
 use Rattle.std.proofs.Common.{ℕ, ◌≡◌, ◌<◌, get_or}
 use Rattle.bg2d.specs.AffinePixels.{affine_pixel}
-use Rattle.bg2d.proofs.affines.affine_row.Given as goal
+use Rattle.bg2d.proofs.affines.bounded_row.Given as goal
 
 abbrev pub invariant-loop-x : goal.invariant-loop-x
 invariant-loop-x l = (x : ℕ) → x < l.x → get_or l.into.pixels x 0 ≡ affine_pixel l.vram l.palette l.layer x

@@ -1,5 +1,6 @@
-use Rattle.std.proofs.Common.{ℕ, ◌≡◌, ◌≢◌, ◌≤◌, ◌+◌, ◌-◌, ◌/◌, ◌%◌, ◌⊎◌, inl, inr, true, false, List, [], ◌∷◌, length, map, Some, None, refl, sym, ap, ◌∙◌, arith}
-use Rattle.std.specs.Prelude.{◌==◌, ◌&&◌, ◌||◌, not, nat_lt, slice_index, slice_index_or}
+use Rattle.std.proofs.Common.{ℕ, ◌≡◌, ◌≢◌, ◌≤◌, ◌+◌, ◌-◌, ◌/◌, ◌%◌, ◌⊎◌, inl, inr, true, false, List, [], ◌∷◌, length, map, Option, Some, None, refl, sym, ap, ◌∙◌, arith}
+use Rattle.std.specs.Prelude.{◌==◌, ◌&&◌, ◌||◌, nat_lt, is_some, slice_index, slice_index_or}
+use Rattle.std.specs.Option.{unwrap_or}
 use Rattle.std.specs.List.{list_all}
 use Rattle.ds_base.proofs.Choices.{same_or_not, is_equal, is_unequal}
 use Rattle.gx_geometry.specs.declared.numbers.Kind.{Kind}
@@ -7,7 +8,7 @@ use Rattle.gx_geometry.specs.declared.numbers.Kind.TheVariants.{Triangles, Quads
 use Rattle.gx_geometry.specs.declared.polygons.Shape.{Shape}
 use Rattle.gx_geometry.specs.declared.polygons.Shape.TheVariants.{Triangle, TurnedTriangle, Quad, StripQuad}
 use Rattle.gx_geometry.specs.declared.polygons.Vertex.{Vertex}
-use Rattle.gx_geometry.specs.Polygons.{last_place, corners, completed, no_place, place_since, place_among, has_corners, may_be_seen, indices_of, polygon_with, polygon_at, polygon_by, polygon_of, polygon_among}
+use Rattle.gx_geometry.specs.Polygons.{last_place, corners, completed, place_since, place_among, has_corners, may_be_seen, polygon_with, polygon_at, polygon_by, polygon_of, polygon_among}
 use Rattle.gx_geometry.specs.Backs.{shape_of, corners_back, index_back, reaches_back, seen_back, indices_back, polygon_back, polygon_by_shape}
 use Rattle.gx_geometry.specs.declared.numbers.Numbers.{Numbers}
 
@@ -21,11 +22,11 @@ ArePairs last [] (b ∷ bs) = ⊥
 ArePairs last (p ∷ ps) [] = ⊥
 
 -- where the run's vertices stand by their places, and the last four by how far back they came
-unfoldable pub Agrees : (ℕ → ℕ) → List ℕ → ℕ → Type 0
+unfoldable pub Agrees : (ℕ → Option ℕ) → List (Option ℕ) → ℕ → Type 0
 Agrees stands four last = (p b : ℕ) → last ≡ p + b → b ≤ 3 → stands p ≡ index_back four b
 
-module _ (stands : ℕ → ℕ) (four : List ℕ) (came : List Vertex) (a : Numbers) (agrees : Agrees stands four (last_place a)) where
-  indices_same : (ps bs : List ℕ) → ArePairs (last_place a) ps bs → map stands ps ≡ map (index_back four) bs
+module _ (stands : ℕ → Option ℕ) (four : List (Option ℕ)) (came : List Vertex) (a : Numbers) (agrees : Agrees stands four (last_place a)) where
+  indices_same : (ps bs : List ℕ) → ArePairs (last_place a) ps bs → map (λ p. unwrap_or (stands p) 0) ps ≡ map (λ b. unwrap_or (index_back four b) 0) bs
   unfolding ArePairs Agrees
   indices_same [] [] h = refl
   indices_same (p ∷ ps) (b ∷ bs) h = rw (agrees p b h.0.0 h.0.1, indices_same ps bs h.1) refl
@@ -33,7 +34,7 @@ module _ (stands : ℕ → ℕ) (four : List ℕ) (came : List Vertex) (a : Numb
   indices_same (p ∷ ps) [] h = absurd h
 
   all_same : (ps bs : List ℕ) → ArePairs (last_place a) ps bs →
-      list_all (λ p. not (stands p == no_place)) ps ≡ list_all (λ b. not (index_back four b == no_place)) bs
+      list_all (λ p. is_some (stands p)) ps ≡ list_all (λ b. is_some (index_back four b)) bs
   unfolding ArePairs Agrees
   all_same [] [] h = refl
   all_same (p ∷ ps) (b ∷ bs) h = rw (agrees p b h.0.0 h.0.1, all_same ps bs h.1) refl
@@ -72,7 +73,7 @@ module _ (stands : ℕ → ℕ) (four : List ℕ) (came : List Vertex) (a : Numb
   lengths last (p ∷ ps) [] h = absurd h
 
   with_same : (ps : List ℕ) (shape : Shape) → ArePairs (last_place a) ps (corners_back shape) → polygon_with stands a ps ≡ polygon_back four a shape
-  unfolding polygon_with polygon_back indices_of indices_back
+  unfolding polygon_with polygon_back indices_back
   with_same ps shape h = rw (indices_same ps (corners_back shape) h, lengths (last_place a) ps (corners_back shape) h) refl
 
   polygon_same : (ps : List ℕ) (shape : Shape) → ArePairs (last_place a) ps (corners_back shape) →
@@ -170,7 +171,7 @@ found Quads place = quads place
 found TriangleStrip place = strip place
 found QuadStrip place = quad_strip place
 
-by_agreeing : (stands : ℕ → ℕ) (four : List ℕ) (came : List Vertex) (a : Numbers) → Agrees stands four (last_place a)
+by_agreeing : (stands : ℕ → Option ℕ) (four : List (Option ℕ)) (came : List Vertex) (a : Numbers) → Agrees stands four (last_place a)
     → polygon_by (completed a.kind (last_place a)) stands came a ≡ polygon_by_shape (shape_of a.kind (last_place a)) four came a
 unfolding Found
 by_agreeing stands four came a agrees = elim (found a.kind (last_place a)) [
@@ -178,24 +179,24 @@ by_agreeing stands four came a agrees = elim (found a.kind (last_place a)) [
   | inr some ↦ rw (some.2, some.3) (polygon_same stands four came a agrees (corners a.kind some.0) some.1 some.4)
 ]
 
-among_agrees : (four : List ℕ) (a : Numbers) → Agrees (place_among four a) four (last_place a)
+among_agrees : (four : List (Option ℕ)) (a : Numbers) → Agrees (place_among four a) four (last_place a)
 unfolding Agrees
 among_agrees four a p b e few =
-    let i : p + 3 - last_place a ≡ 3 - b = omega (arith, e) in ap (λ (n : ℕ). slice_index_or four n no_place) i
+    let i : p + 3 - last_place a ≡ 3 - b = omega (arith, e) in ap (λ (n : ℕ). slice_index_or four n None) i
 
 -- the polygon that the last vertex completes
-pub by_shape : (four : List ℕ) (came : List Vertex) (a : Numbers) → polygon_among four came a ≡ polygon_by_shape (shape_of a.kind (last_place a)) four came a
+pub by_shape : (four : List (Option ℕ)) (came : List Vertex) (a : Numbers) → polygon_among four came a ≡ polygon_by_shape (shape_of a.kind (last_place a)) four came a
 unfolding polygon_among
 by_shape four came a = by_agreeing (place_among four a) four came a (among_agrees four a)
 
 -- the same by all vertices that came, where the last four stand by them
-pub same_polygon : (four : List ℕ) (came : List Vertex) (a : Numbers) → Agrees (place_since came a) four (last_place a)
+pub same_polygon : (four : List (Option ℕ)) (came : List Vertex) (a : Numbers) → Agrees (place_since came a) four (last_place a)
     → polygon_among four came a ≡ polygon_of came a
 unfolding polygon_of
 same_polygon four came a agrees = by_shape four came a ∙ sym (by_agreeing (place_since came a) four came a agrees)
 
 -- three corners leave the fourth place unused
-pub shaped_back : (four : List ℕ) (shape : Shape) (count : ℕ) (indices : List ℕ) → count ≡ length (corners_back shape)
+pub shaped_back : (four : List (Option ℕ)) (shape : Shape) (count : ℕ) (indices : List ℕ) → count ≡ length (corners_back shape)
     → indices ≡ indices_back four shape
     → ((count == 4) || (count == 3 && slice_index indices 3 == 0)) ≡ true
 unfolding indices_back

@@ -1,5 +1,5 @@
 use Rattle.std.proofs.Common.{ℕ, zero, suc, ◌≡◌, ◌<◌, ◌≤◌, ◌+◌, ◌-◌, ◌*◌, ◌%◌, inl, inr, Bool, true, false, true≢false, List, [], ◌∷◌, ◌++◌, length, take, Option, Some, None, refl, sym, subst, ◌∙◌, ap, arith, append_assoc, append-nil, length-append}
-use Rattle.std.specs.Prelude.{◌==◌, ◌&&◌, ◌||◌, nat_le, if◌then◌else◌, option_to_list, slice_index, slice_index_or}
+use Rattle.std.specs.Prelude.{◌==◌, ◌&&◌, ◌||◌, nat_le, if◌then◌else◌, option_to_list, slice_index_or}
 use Rattle.std.proofs.lemmas.List.{take-append-le, take_all, length-take-le}
 use Rattle.ds_base.proofs.Choices.{low_or_high}
 use Rattle.gx_matrix.specs.declared.commands.GeometryCommand.{GeometryCommand}
@@ -10,7 +10,7 @@ use Rattle.gx_geometry.specs.declared.polygons.Vertex.{Vertex}
 use Rattle.gx_geometry.specs.declared.polygons.Polygon.{Polygon}
 use Rattle.gx_geometry.specs.declared.numbers.Numbers.{Numbers}
 use Rattle.gx_geometry.specs.Changes.{numbers_after, gives_vertex}
-use Rattle.gx_geometry.specs.Polygons.{vertex_of, last_place, no_place, place_since, polygon_of, polygon_among, polygon_at, polygon_by, corners, completed, has_corners, most_vertices, most_polygons}
+use Rattle.gx_geometry.specs.Polygons.{vertex_of, last_place, place_since, polygon_of, polygon_among, polygon_at, polygon_by, corners, completed, has_corners, most_vertices, most_polygons}
 use Rattle.gx_geometry.specs.ListLaws.{GeometryAct, Command, ClearError, ClearOverflow, arrivals, polygons_of, vertices_of}
 use Rattle.gx_geometry.specs.States.{OutcomeState, GeometryState, IsFresh, AreListsSince, four_recent, none_recent, then_recent, vertex_dropped, polygon_added, vertex_added, arrived, tested, outcome_after, geometry_after, geometry_error_cleared, overflow_cleared, after_all}
 use Rattle.gx_geometry.proofs.Backs.{Agrees, same_polygon}
@@ -44,10 +44,10 @@ polygon_step (Some p) o made e = elim (low_or_high (length made) most_polygons) 
 ]
 
 -- past the limit a vertex makes no polygon
-nowhere : (came : List Vertex) (a : Numbers) (place : ℕ) → most_vertices < length came → place_since came a place ≡ no_place
+nowhere : (came : List Vertex) (a : Numbers) (place : ℕ) → most_vertices < length came → place_since came a place ≡ None
 nowhere came a place h = grind (arith, h)
 
-none_stands : (stands : ℕ → ℕ) (p : ℕ) (ps : List ℕ) → stands p ≡ no_place → has_corners stands (p ∷ ps) ≡ false
+none_stands : (stands : ℕ → Option ℕ) (p : ℕ) (ps : List ℕ) → stands p ≡ None → has_corners stands (p ∷ ps) ≡ false
 unfolding has_corners
 none_stands stands p ps h = rw h refl
 
@@ -146,29 +146,29 @@ step_polygons true a came made later =
 step_polygons false a came made later = refl
 
 -- where the last so many of a run's vertices stands among those that came
-abbrev pub back_place : ℕ → ℕ → ℕ → ℕ
-back_place came run back = if nat_le back run && nat_le back came then came - back else no_place
+abbrev pub back_place : ℕ → ℕ → ℕ → Option ℕ
+back_place came run back = if nat_le back run && nat_le back came then Some (came - back) else None
 
-pub record AreBack (came run : ℕ) (recent : List ℕ) : Type 0 where
-  pub first : slice_index recent 0 ≡ back_place came run 3
-  pub second : slice_index recent 1 ≡ back_place came run 2
-  pub third : slice_index recent 2 ≡ back_place came run 1
+pub record AreBack (came run : ℕ) (recent : List (Option ℕ)) : Type 0 where
+  pub first : slice_index_or recent 0 None ≡ back_place came run 3
+  pub second : slice_index_or recent 1 None ≡ back_place came run 2
+  pub third : slice_index_or recent 2 None ≡ back_place came run 1
 
 -- the run's last three stand so, as long as none was dropped
-unfoldable pub IsLinked : List Vertex → ℕ → List ℕ → Type 0
+unfoldable pub IsLinked : List Vertex → ℕ → List (Option ℕ) → Type 0
 IsLinked came run recent = length came ≤ most_vertices → AreBack (length came) run recent
 
-pub fresh_linked : (run : ℕ) (recent : List ℕ) → recent ≡ none_recent → IsLinked [] run recent
+pub fresh_linked : (run : ℕ) (recent : List (Option ℕ)) → recent ≡ none_recent → IsLinked [] run recent
 unfolding IsLinked
 fresh_linked run recent e few = rw e (record { first = grind arith; second = grind arith; third = grind arith })
 
 back_more : (came run back : ℕ) → back_place came run back ≡ back_place (came + 1) (run + 1) (back + 1)
 back_more came run back = grind arith
 
-back_last : (came run : ℕ) → came ≡ back_place (came + 1) (run + 1) 1
+back_last : (came run : ℕ) → Some came ≡ back_place (came + 1) (run + 1) 1
 back_last came run = grind arith
 
-then_back : (came run : ℕ) (recent : List ℕ) → AreBack came run recent → AreBack (came + 1) (run + 1) (then_recent came recent)
+then_back : (came run : ℕ) (recent : List (Option ℕ)) → AreBack came run recent → AreBack (came + 1) (run + 1) (then_recent (Some came) recent)
 then_back came run recent h = record {
   first = h.second ∙ back_more came run 2;
   second = h.third ∙ back_more came run 1;
@@ -185,8 +185,8 @@ vertex_linked a run o came made held linked few =
     let long : length o.vertices ≡ length came = ap (λ (xs : List Vertex). length xs) same in
     let room : length o.vertices < most_vertices = omega (arith, long, one, few) in
     let p = polygon_among (four_recent o) (o.vertices ++ vertex_of a ∷ []) a in
-    let recent : then_recent (length came) o.recent ≡ (arrived a o).recent =
-    ap (λ (n : ℕ). then_recent n o.recent) (sym long) ∙ sym (recent_polygon p (vertex_added (vertex_of a) o)) ∙ sym (ap (λ (x : OutcomeState). x.recent) (arrived_room a o room)) in
+    let recent : then_recent (Some (length came)) o.recent ≡ (arrived a o).recent =
+    ap (λ (n : ℕ). then_recent (Some n) o.recent) (sym long) ∙ sym (recent_polygon p (vertex_added (vertex_of a) o)) ∙ sym (ap (λ (x : OutcomeState). x.recent) (arrived_room a o room)) in
     rw one (subst (AreBack (length came + 1) (run + 1)) recent (then_back (length came) run o.recent (linked (omega (arith, one, few)))))
 
 begun_linked : (came : List Vertex) → IsLinked came 0 none_recent
@@ -233,9 +233,9 @@ run_given VtxYz run h = refl
 run_given VtxDiff run h = refl
 run_given command run h = absurd (true≢false (sym h))
 
-back_is : (came run last p b : ℕ) (four : List ℕ) → slice_index_or four 3 no_place ≡ came → slice_index_or four 2 no_place ≡ back_place came run 1
-    → slice_index_or four 1 no_place ≡ back_place came run 2 → slice_index_or four 0 no_place ≡ back_place came run 3 → b ≤ 3
-    → slice_index_or four (3 - b) no_place ≡ (if nat_le b came && (nat_le b run || b == 0) then came - b else no_place)
+back_is : (came run last p b : ℕ) (four : List (Option ℕ)) → slice_index_or four 3 None ≡ Some came → slice_index_or four 2 None ≡ back_place came run 1
+    → slice_index_or four 1 None ≡ back_place came run 2 → slice_index_or four 0 None ≡ back_place came run 3 → b ≤ 3
+    → slice_index_or four (3 - b) None ≡ (if nat_le b came && (nat_le b run || b == 0) then Some (came - b) else None)
 back_is came run last p zero four d c b a few = grind (arith, d)
 back_is came run last p (suc zero) four d c b a few = grind (arith, c)
 back_is came run last p (suc (suc zero)) four d c b a few = grind (arith, b)
@@ -243,7 +243,7 @@ back_is came run last p (suc (suc (suc zero))) four d c b a few = grind (arith, 
 back_is came run last p (suc (suc (suc (suc n)))) four d c b a few = absurd (omega (arith, few))
 
 since_is : (came : List Vertex) (a : Numbers) (n p b : ℕ) → length came ≡ n + 1 → n < most_vertices → last_place a ≡ p + b
-    → place_since came a p ≡ (if nat_le b n && (nat_le b (last_place a) || b == 0) then n - b else no_place)
+    → place_since came a p ≡ (if nat_le b n && (nat_le b (last_place a) || b == 0) then Some (n - b) else None)
 since_is came a n p b long few e = grind (arith, long, few, e)
 
 agree : (a : Numbers) (o : OutcomeState) (came : List Vertex) → length came < most_vertices → length o.vertices ≡ length came
@@ -253,7 +253,7 @@ unfolding Agrees
 agree a o came room long back p b e few =
     let one : length (came ++ vertex_of a ∷ []) ≡ length came + 1 = length-append came (vertex_of a ∷ []) in
     since_is (came ++ vertex_of a ∷ []) a (length came) p b one room e
-    ∙ sym (back_is (length came) (last_place a) (last_place a) p b (four_recent o) long back.third back.second back.first few)
+    ∙ sym (back_is (length came) (last_place a) (last_place a) p b (four_recent o) (ap (λ (n : ℕ). Some n) long) back.third back.second back.first few)
 
 same_made : (a : Numbers) (run : ℕ) (o : OutcomeState) (came : List Vertex) (made : List Polygon) → last_place a ≡ run → Holds o came made
     → IsLinked came run o.recent →

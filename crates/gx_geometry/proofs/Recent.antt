@@ -1,34 +1,35 @@
-use Rattle.std.proofs.Common.{ℕ, ◌≡◌, ◌+◌, Bool, true, false, nat_lt, List, [], ◌∷◌, ◌++◌, length, slice_index, Option, Some, None, refl, sym, subst, ◌∙◌, ap, arith}
-use Rattle.std.specs.Prelude.{if◌then◌else◌}
+use Rattle.std.proofs.Common.{ℕ, ◌≡◌, ◌+◌, Bool, true, false, nat_lt, List, [], ◌∷◌, ◌++◌, length, Option, Some, None, refl, sym, subst, ◌∙◌, ap, arith}
+use Rattle.std.specs.Prelude.{if◌then◌else◌, slice_index_or}
 use Rattle.gx_matrix.specs.declared.commands.GeometryCommand.{GeometryCommand}
 use Rattle.gx_matrix.specs.declared.commands.GeometryCommand.TheVariants.{Color, Normal, Texcoord, Vtx16, Vtx10, VtxXy, VtxXz, VtxYz, VtxDiff, PolygonAttr, TeximageParam, PlttBase, DifAmb, SpeEmi, LightVector, LightColor, Shininess, BeginVtxs, SwapBuffers, Viewport, BoxTest, PosTest, VecTest}
 use Rattle.gx_geometry.specs.declared.polygons.Polygon.{Polygon}
 use Rattle.gx_geometry.specs.declared.numbers.Numbers.{Numbers}
 use Rattle.gx_geometry.specs.Changes.{numbers_drawn, numbers_lit, numbers_after, normal_given, coordinates_given, vertex_given, diffuse_given, specular_given, light_pointed, light_coloured, run_begun, gives_vertex}
-use Rattle.gx_geometry.specs.Polygons.{vertex_of, no_place, polygon_among, most_vertices, most_polygons}
+use Rattle.gx_geometry.specs.Polygons.{vertex_of, polygon_among, most_vertices, most_polygons}
 use Rattle.gx_geometry.specs.States.{OutcomeState, GeometryState, four_recent, none_recent, then_recent, overflown, polygon_added, vertex_added, vertex_dropped, arrived, tested, outcome_after, geometry_after}
 use Rattle.gx_geometry.specs.Bounds.{is_place, is_told}
 use Rattle.gx_geometry.specs.BoundLaws.{ArePlaces, AreTold}
 
 -- The places of a run's last three vertices, command by command.
 
-place_more : (long place : ℕ) → is_place long place ≡ true → is_place (long + 1) place ≡ true
-place_more long place h = grind (arith, h)
+place_more : (long : ℕ) (place : Option ℕ) → is_place long place ≡ true → is_place (long + 1) place ≡ true
+place_more long None h = refl
+place_more long (Some n) h = grind (arith, h)
 
-new_place : (long : ℕ) → is_place (long + 1) long ≡ true
+new_place : (long : ℕ) → is_place (long + 1) (Some long) ≡ true
 new_place long = grind arith
 
 -- one vertex more in the list, and the run's last three with it
-pub places_added : (long more : ℕ) (recent : List ℕ) → more ≡ long + 1 → ArePlaces long recent → ArePlaces more (then_recent long recent)
+pub places_added : (long more : ℕ) (recent : List (Option ℕ)) → more ≡ long + 1 → ArePlaces long recent → ArePlaces more (then_recent (Some long) recent)
 places_added long more recent e h = rw e (record {
   three = refl;
-  first = place_more long (slice_index recent 1) h.second;
-  second = place_more long (slice_index recent 2) h.third;
+  first = place_more long (slice_index_or recent 1 None) h.second;
+  second = place_more long (slice_index_or recent 2 None) h.third;
   third = new_place long;
 })
 
 -- one that was dropped
-pub places_dropped : (long : ℕ) (recent : List ℕ) → ArePlaces long recent → ArePlaces long (then_recent no_place recent)
+pub places_dropped : (long : ℕ) (recent : List (Option ℕ)) → ArePlaces long recent → ArePlaces long (then_recent None recent)
 places_dropped long recent h = record { three = refl; first = h.second; second = h.third; third = refl }
 
 pub no_places : (long : ℕ) → ArePlaces long none_recent
@@ -37,16 +38,18 @@ no_places long = record { three = refl; first = refl; second = refl; third = ref
 pub none_told : (run : ℕ) → AreTold run none_recent
 none_told run = record { first = refl; second = refl; third = refl }
 
-told_more : (run back place : ℕ) → is_told run back place ≡ true → is_told (run + 1) (back + 1) place ≡ true
-told_more run back place h = grind (arith, h)
+told_more : (run back : ℕ) (place : Option ℕ) → is_told run back place ≡ true → is_told (run + 1) (back + 1) place ≡ true
+told_more run back None h = refl
+told_more run back (Some n) h = grind (arith, h)
 
-told_last : (run place : ℕ) → is_told (run + 1) 1 place ≡ true
-told_last run place = grind arith
+told_last : (run : ℕ) (place : Option ℕ) → is_told (run + 1) 1 place ≡ true
+told_last run None = refl
+told_last run (Some n) = grind arith
 
-told_then : (run place : ℕ) (recent : List ℕ) → AreTold run recent → AreTold (run + 1) (then_recent place recent)
+told_then : (run : ℕ) (place : Option ℕ) (recent : List (Option ℕ)) → AreTold run recent → AreTold (run + 1) (then_recent place recent)
 told_then run place recent h = record {
-  first = told_more run 2 (slice_index recent 1) h.second;
-  second = told_more run 1 (slice_index recent 2) h.third;
+  first = told_more run 2 (slice_index_or recent 1 None) h.second;
+  second = told_more run 1 (slice_index_or recent 2 None) h.third;
   third = told_last run place;
 }
 
@@ -91,8 +94,8 @@ recent_polygon (Some p) o = recent_if (nat_lt (length o.polygons) most_polygons)
 
 arrived_told : (room : Bool) (p : Option Polygon) (a : Numbers) (run : ℕ) (o : OutcomeState) → AreTold run o.recent
     → AreTold (run + 1) (if room then polygon_added p (vertex_added (vertex_of a) o) else vertex_dropped o).recent
-arrived_told true p a run o h = subst (AreTold (run + 1)) (sym (recent_polygon p (vertex_added (vertex_of a) o))) (told_then run (length o.vertices) o.recent h)
-arrived_told false p a run o h = told_then run no_place o.recent h
+arrived_told true p a run o h = subst (AreTold (run + 1)) (sym (recent_polygon p (vertex_added (vertex_of a) o))) (told_then run (Some (length o.vertices)) o.recent h)
+arrived_told false p a run o h = told_then run None o.recent h
 
 vertex_told : (a : Numbers) (run : ℕ) (o : OutcomeState) → AreTold run o.recent → AreTold (run + 1) (arrived a o).recent
 unfolding arrived

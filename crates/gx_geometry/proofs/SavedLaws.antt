@@ -1,4 +1,4 @@
-use Rattle.std.proofs.Common.{rules, ℕ, ℤ, FitsSigned, zero, suc, ◌≡◌, ◌<◌, ◌≤◌, ◌^◌, true, nat_le, List, [], ◌∷◌, length, slice_index, slice_index_or, refl, ap, arith}
+use Rattle.std.proofs.Common.{rules, ℕ, ℤ, FitsSigned, zero, suc, ◌≡◌, ◌<◌, ◌≤◌, ◌^◌, true, nat_le, List, [], ◌∷◌, length, slice_index, slice_index_or, Option, Some, None, refl, ap, arith}
 use Rattle.std.specs.Int.{w32}
 use Rattle.std.specs.List.{AllByRecursion}
 use Rattle.ds_state.specs.Formats.{signed_format}
@@ -10,12 +10,13 @@ use Rattle.gx_geometry.specs.declared.numbers.Kind.{Kind}
 use Rattle.gx_geometry.specs.declared.numbers.Kind.TheVariants.{Triangles, Quads, TriangleStrip, QuadStrip}
 use Rattle.gx_geometry.specs.declared.polygons.Vertex.{Vertex}
 use Rattle.gx_geometry.specs.declared.polygons.Polygon.{Polygon}
-use Rattle.gx_geometry.specs.Bounds.{is_place}
+use Rattle.gx_geometry.specs.Bounds.{is_place, is_told}
+use Rattle.gx_geometry.specs.BoundLaws.{ArePlaces}
 use Rattle.gx_geometry.specs.Polygons.{most_vertices, most_polygons}
 use Rattle.gx_geometry.specs.declared.numbers.Light.{Light}
 use Rattle.gx_geometry.specs.States.{GeometryState, Swapped, no_swap}
 use Rattle.gx_geometry.specs.SavedLaws.{GeometryIsSaved, IsSavedGeometry, AreSwapped, IsLight, IsPolygon, IsVertex}
-use Rattle.gx_geometry.specs.Saved.{signed_at, holds_recent, unless_none, vertex_format, polygon_format, light_format, lists_format, geometry_format, run_kind_number}
+use Rattle.gx_geometry.specs.Saved.{signed_at, holds_recent, unless_none, vertex_format, polygon_format, light_format, lists_format, geometry_format, place_number, place_of_number, run_kind_number}
 
 -- What the geometry engine owes of its format.
 
@@ -46,6 +47,9 @@ number_of_kind (suc (suc zero)) h = refl
 number_of_kind (suc (suc (suc zero))) h = refl
 number_of_kind (suc (suc (suc (suc n)))) h = absurd (omega (arith, h))
 
+number_again : (n : ℕ) → place_number (place_of_number n) ≡ n
+number_again n = grind arith
+
 pub geometry_exact : (at : ℕ) → IsExact geometry_format at
 unfolding geometry_format
 geometry_exact at = (
@@ -70,6 +74,7 @@ geometry_exact at = (
                       λ last _.
                           let few : kind < 4 = grind (arith, small) in
                           let number = number_of_kind kind few in
+                          let a = number_again first in let b = number_again second in let c = number_again third in
                           search rules,
                     ),
                   ),
@@ -97,7 +102,7 @@ four_again (a ∷ b ∷ c ∷ []) h = absurd (omega (arith, h))
 four_again (a ∷ b ∷ c ∷ d ∷ []) h = refl
 four_again (a ∷ b ∷ c ∷ d ∷ e ∷ rest) h = absurd (omega (arith, h))
 
-three_again : (xs : List ℕ) → length xs ≡ 3 → slice_index xs 0 ∷ slice_index xs 1 ∷ slice_index xs 2 ∷ [] ≡ xs
+three_again : (xs : List (Option ℕ)) → length xs ≡ 3 → slice_index_or xs 0 None ∷ slice_index_or xs 1 None ∷ slice_index_or xs 2 None ∷ [] ≡ xs
 three_again [] h = absurd (omega (arith, h))
 three_again (a ∷ []) h = absurd (omega (arith, h))
 three_again (a ∷ b ∷ []) h = absurd (omega (arith, h))
@@ -183,14 +188,32 @@ few_kinds Quads = omega arith
 few_kinds TriangleStrip = omega arith
 few_kinds QuadStrip = omega arith
 
--- a place of the list, or none, is a half
-place_small : (long place : ℕ) → long ≤ most_vertices → is_place long place ≡ true → place < 2 ^ 16
-place_small long place few h = grind (arith, few, h)
+-- a place of the list, or none, is a half, and is what its number tells
+place_small : (long : ℕ) (place : Option ℕ) → long ≤ most_vertices → is_place long place ≡ true → place_number place < 2 ^ 16
+place_small long None few h = omega arith
+place_small long (Some n) few h = grind (arith, few, h)
 
-holds_all : (first second third at long : ℕ) → long ≤ most_vertices → is_place long first ≡ true → is_place long second ≡ true → is_place long third ≡ true
-    → holds_recent first second third at long ≡ true
-holds_all first second third at long few a b c =
-    let le : nat_le long most_vertices ≡ true = grind (arith, few) in rw (le, a, b, c) refl
+place_again : (long : ℕ) (place : Option ℕ) → long ≤ most_vertices → is_place long place ≡ true → place_of_number (place_number place) ≡ place
+place_again long None few h = refl
+place_again long (Some n) few h = grind (arith, few, h)
+
+told_again : (run back long : ℕ) (place : Option ℕ) → long ≤ most_vertices → is_place long place ≡ true → is_told run back place ≡ true
+    → is_told run back (place_of_number (place_number place)) ≡ true
+told_again run back long place few is told = rw (place_again long place few is) told
+
+abbrev recent_told : List (Option ℕ) → List (Option ℕ)
+recent_told recent =
+    place_of_number (place_number (slice_index_or recent 0 None)) ∷ place_of_number (place_number (slice_index_or recent 1 None))
+    ∷ place_of_number (place_number (slice_index_or recent 2 None)) ∷ []
+
+recent_again : (recent : List (Option ℕ)) (long : ℕ) → long ≤ most_vertices → ArePlaces long recent → recent_told recent ≡ recent
+recent_again recent long few are =
+    rw (place_again long _ few are.first, place_again long _ few are.second, place_again long _ few are.third) (three_again recent are.three)
+
+holds_all : (recent : List (Option ℕ)) (at long : ℕ) → long ≤ most_vertices → ArePlaces long recent → holds_recent (recent_told recent) at long ≡ true
+holds_all recent at long few are =
+    let le : nat_le long most_vertices ≡ true = grind (arith, few) in
+    rw (place_again long _ few are.first, place_again long _ few are.second, place_again long _ few are.third, le, are.first, are.second, are.third) refl
 
 pub geometry_stands : (at : ℕ) (g : GeometryState) → at ≤ 2 ^ 56 → IsSavedGeometry at g → StandsFor geometry_format at g
 unfolding geometry_format
@@ -215,17 +238,19 @@ geometry_stands at g early is =
     let first = place_small _ _ few is.bounds.places.first in
     let second = place_small _ _ few is.bounds.places.second in
     let third = place_small _ _ few is.bounds.places.third in
-    let told_first = is.bounds.told.first in let told_second = is.bounds.told.second in let told_third = is.bounds.told.third in
+    let told_first = told_again _ 3 _ _ few is.bounds.places.first is.bounds.told.first in
+    let told_second = told_again _ 2 _ _ few is.bounds.places.second is.bounds.told.second in
+    let told_third = told_again _ 1 _ _ few is.bounds.places.third is.bounds.told.third in
     let results = is.bounds.results in
     let four = results.four in
     let position = signed_stand at g.outcome.position results.position in
     let a = results.a in let b = results.b in let c = results.c in
-    let holds = holds_all _ _ _ 0 _ few is.bounds.places.first is.bounds.places.second is.bounds.places.third in
+    let holds = holds_all g.outcome.recent 0 _ few is.bounds.places in
     let vertices = vertices_stand at g.outcome.vertices is.bounds.vertices in
     let polygons = polygons_stand at g.outcome.polygons is.bounds.polygons in
     let last = lists_stand at g.last early is.bounds.last is.swap is.none in
     let kind = kind_again g.numbers.kind in
-    let again = three_again g.outcome.recent is.bounds.places.three in
+    let again = recent_again g.outcome.recent _ few is.bounds.places in
     let lights_are = lights_again g.numbers.lights lit.four in
     let vector_is = halves_again g.outcome.vector results.three in
     (search rules, rw (kind, again, lights_are, vector_is) refl)

@@ -1,4 +1,5 @@
-use Rattle.std.specs.Prelude.{ℕ, ◌-◌, ◌%◌, ◌==◌, ◌&&◌, ◌||◌, not, nat_lt, if◌then◌else◌, Bool, List, [], ◌∷◌, ◌++◌, length, map, replicate, slice_index, slice_index_or, Option, Some, None}
+use Rattle.std.specs.Prelude.{ℕ, ◌-◌, ◌%◌, ◌==◌, ◌&&◌, ◌||◌, nat_lt, if◌then◌else◌, Bool, List, [], ◌∷◌, ◌++◌, length, map, replicate, slice_index, slice_index_or, Option, Some, None, is_some}
+use Rattle.std.specs.Option.{unwrap_or}
 use Rattle.std.specs.List.{list_all}
 use Rattle.gx_geometry.specs.declared.numbers.Kind.{Kind}
 use Rattle.gx_geometry.specs.declared.numbers.Kind.TheVariants.{Triangles, Quads, TriangleStrip, QuadStrip}
@@ -6,7 +7,7 @@ use Rattle.gx_geometry.specs.declared.polygons.Shape.{Shape}
 use Rattle.gx_geometry.specs.declared.polygons.Shape.TheVariants.{Triangle, TurnedTriangle, Quad, StripQuad}
 use Rattle.gx_geometry.specs.declared.polygons.Vertex.{Vertex}
 use Rattle.gx_geometry.specs.declared.polygons.Polygon.{Polygon}
-use Rattle.gx_geometry.specs.Polygons.{no_place, no_vertex, determinant, is_kept}
+use Rattle.gx_geometry.specs.Polygons.{determinant, is_kept, vertex_at}
 use Rattle.gx_geometry.specs.declared.numbers.Numbers.{Numbers}
 
 -- How the code finds a polygon's corners: by how many vertices before the last one they came, among the places of the last four. No public
@@ -26,21 +27,21 @@ corners_back Quad = 3 ∷ 2 ∷ 1 ∷ 0 ∷ []
 corners_back StripQuad = 3 ∷ 2 ∷ 0 ∷ 1 ∷ []
 
 -- of the places of the last four, the oldest first
-abbrev pub index_back : List ℕ → ℕ → ℕ
-index_back four back = slice_index_or four (3 - back) no_place
+abbrev pub index_back : List (Option ℕ) → ℕ → Option ℕ
+index_back four back = slice_index_or four (3 - back) None
 
-unfoldable pub reaches_back : List ℕ → Shape → Bool
-reaches_back four shape = list_all (λ b. not (index_back four b == no_place)) (corners_back shape)
+unfoldable pub reaches_back : List (Option ℕ) → Shape → Bool
+reaches_back four shape = list_all (λ b. is_some (index_back four b)) (corners_back shape)
 
-unfoldable pub seen_back : List ℕ → List Vertex → ℕ → Shape → Bool
+unfoldable pub seen_back : List (Option ℕ) → List Vertex → ℕ → Shape → Bool
 seen_back four came attributes shape =
-    let corner = λ (i : ℕ). slice_index_or came (index_back four (slice_index (corners_back shape) i)) no_vertex in
+    let corner = λ (i : ℕ). vertex_at came (index_back four (slice_index (corners_back shape) i)) in
     is_kept attributes (determinant (corner 0) (corner 1) (corner 2))
 
-unfoldable pub indices_back : List ℕ → Shape → List ℕ
-indices_back four shape = map (index_back four) (corners_back shape) ++ replicate (4 - length (corners_back shape)) 0
+unfoldable pub indices_back : List (Option ℕ) → Shape → List ℕ
+indices_back four shape = map (λ b. unwrap_or (index_back four b) 0) (corners_back shape) ++ replicate (4 - length (corners_back shape)) 0
 
-unfoldable pub polygon_back : List ℕ → Numbers → Shape → Polygon
+unfoldable pub polygon_back : List (Option ℕ) → Numbers → Shape → Polygon
 polygon_back four a shape = record {
   attributes = a.attributes;
   texture = a.texture;
@@ -50,7 +51,7 @@ polygon_back four a shape = record {
   indices = indices_back four shape;
 }
 
-abbrev pub polygon_by_shape : Option Shape → List ℕ → List Vertex → Numbers → Option Polygon
+abbrev pub polygon_by_shape : Option Shape → List (Option ℕ) → List Vertex → Numbers → Option Polygon
 polygon_by_shape None four came a = None
 polygon_by_shape (Some shape) four came a =
     if reaches_back four shape && seen_back four came a.attributes shape then Some (polygon_back four a shape) else None

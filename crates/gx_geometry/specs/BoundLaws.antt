@@ -1,4 +1,4 @@
-use Rattle.std.specs.Prelude.{ℕ, ◌≡◌, ◌<◌, ◌≤◌, ◌^◌, ◌==◌, ◌&&◌, ◌||◌, Bool, true, [], List, length, slice_index, slice_index_or}
+use Rattle.std.specs.Prelude.{ℕ, ◌≡◌, ◌<◌, ◌≤◌, ◌^◌, ◌==◌, ◌&&◌, ◌||◌, Bool, true, [], List, length, slice_index, slice_index_or, Option, None}
 use Rattle.std.specs.List.{AllByRecursion}
 use Rattle.gx_geometry.specs.declared.numbers.Numbers.{Numbers}
 use Rattle.gx_geometry.specs.declared.polygons.Vertex.{Vertex}
@@ -44,16 +44,16 @@ pub record AreLimited (vertices : List Vertex) (polygons : List Polygon) : Type 
   pub palettes : HavePalettes polygons
   pub shapes : HaveShapes polygons
 
-pub record ArePlaces (long : ℕ) (recent : List ℕ) : Type 0 where
+pub record ArePlaces (long : ℕ) (recent : List (Option ℕ)) : Type 0 where
   pub three : length recent ≡ 3
-  pub first : is_place long (slice_index recent 0) ≡ true
-  pub second : is_place long (slice_index recent 1) ≡ true
-  pub third : is_place long (slice_index recent 2) ≡ true
+  pub first : is_place long (slice_index_or recent 0 None) ≡ true
+  pub second : is_place long (slice_index_or recent 1 None) ≡ true
+  pub third : is_place long (slice_index_or recent 2 None) ≡ true
 
-pub record AreTold (run : ℕ) (recent : List ℕ) : Type 0 where
-  pub first : is_told run 3 (slice_index recent 0) ≡ true
-  pub second : is_told run 2 (slice_index recent 1) ≡ true
-  pub third : is_told run 1 (slice_index recent 2) ≡ true
+pub record AreTold (run : ℕ) (recent : List (Option ℕ)) : Type 0 where
+  pub first : is_told run 3 (slice_index_or recent 0 None) ≡ true
+  pub second : is_told run 2 (slice_index_or recent 1 None) ≡ true
+  pub third : is_told run 1 (slice_index_or recent 2 None) ≡ true
 
 pub record IsGeometry (g : GeometryState) : Type 0 where
   pub numbers : AreSmall g.numbers

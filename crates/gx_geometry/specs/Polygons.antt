@@ -1,4 +1,5 @@
-use Rattle.std.specs.Prelude.{ℕ, zero, suc, ◌+◌, ◌-◌, ◌*◌, ◌/◌, ◌%◌, ◌==◌, ◌&&◌, ◌||◌, not, nat_lt, nat_le, if◌then◌else◌, Bool, ℤ, pos, negsuc, ◌+ℤ◌, ◌-ℤ◌, ◌*ℤ◌, List, [], ◌∷◌, ◌++◌, length, map, replicate, slice_index, slice_index_or, Option, Some, None}
+use Rattle.std.specs.Prelude.{ℕ, zero, suc, ◌+◌, ◌-◌, ◌*◌, ◌/◌, ◌%◌, ◌==◌, ◌&&◌, ◌||◌, not, nat_lt, nat_le, if◌then◌else◌, Bool, ℤ, pos, negsuc, ◌+ℤ◌, ◌-ℤ◌, ◌*ℤ◌, List, [], ◌∷◌, ◌++◌, length, map, replicate, slice_get, slice_index, slice_index_or, Option, Some, None, is_some}
+use Rattle.std.specs.Option.{option_and_then, unwrap_or}
 use Rattle.std.specs.List.{list_all}
 use Rattle.ds_base.specs.Bits.{bit}
 use Rattle.gx_matrix.specs.Commands.{clip_of}
@@ -62,50 +63,48 @@ is_kept attributes (negsuc n) = bit 6 attributes
 abbrev pub no_vertex : Vertex
 no_vertex = record { x = pos 0; y = pos 0; z = pos 0; w = pos 0; colour = 0; s = pos 0; t = pos 0 }
 
--- a place in the list of vertices that a vertex doesn't have: it was dropped, it came before the last swap, or there is none
-abbrev pub no_place : ℕ
-no_place = 0xFFFF
-
--- Where the vertex of a place in its run stands in the list. Of all vertices that came since the swap the last one completes the polygon, and one of
--- its run stands as many places before it as it came before it, unless it came before the swap; where more came than the list takes, the last one
--- stands nowhere, and no polygon is made.
-abbrev pub place_since : List Vertex → Numbers → ℕ → ℕ
+-- Where the vertex of a place in its run stands in the list, if it does: one that was dropped stands nowhere, and so does one that came before the
+-- last swap. Of all vertices that came since the swap the last one completes the polygon, and one of its run stands as many places before it as it
+-- came before it, unless it came before the swap; where more came than the list takes, the last one stands nowhere, and no polygon is made.
+abbrev pub place_since : List Vertex → Numbers → ℕ → Option ℕ
 place_since came a place =
-    if nat_le (length came) most_vertices && nat_lt (last_place a) (length came + place) then length came + place - (last_place a + 1) else no_place
+    if nat_le (length came) most_vertices && nat_lt (last_place a) (length came + place)
+    then Some (length came + place - (last_place a + 1)) else None
 
 -- the same where it is told where the run's last four vertices stand, the oldest first
-abbrev pub place_among : List ℕ → Numbers → ℕ → ℕ
-place_among four a place = slice_index_or four (place + 3 - last_place a) no_place
+abbrev pub place_among : List (Option ℕ) → Numbers → ℕ → Option ℕ
+place_among four a place = slice_index_or four (place + 3 - last_place a) None
 
 -- none of a polygon's corners stands nowhere
-unfoldable pub has_corners : (ℕ → ℕ) → List ℕ → Bool
-has_corners stands places = list_all (λ p. not (stands p == no_place)) places
+unfoldable pub has_corners : (ℕ → Option ℕ) → List ℕ → Bool
+has_corners stands places = list_all (λ p. is_some (stands p)) places
 
-unfoldable pub may_be_seen : (ℕ → ℕ) → List Vertex → Numbers → List ℕ → Bool
+-- the vertex that stands there
+abbrev pub vertex_at : List Vertex → Option ℕ → Vertex
+vertex_at came place = unwrap_or (option_and_then (slice_get came) place) no_vertex
+
+unfoldable pub may_be_seen : (ℕ → Option ℕ) → List Vertex → Numbers → List ℕ → Bool
 may_be_seen stands came a places =
-    let corner = λ (i : ℕ). slice_index_or came (stands (slice_index places i)) no_vertex in
+    let corner = λ (i : ℕ). vertex_at came (stands (slice_index places i)) in
     is_kept a.attributes (determinant (corner 0) (corner 1) (corner 2))
 
--- its corners by their places in the list of vertices; an unused one is 0
-unfoldable pub indices_of : (ℕ → ℕ) → List ℕ → List ℕ
-indices_of stands places = map stands places ++ replicate (4 - length places) 0
-
-unfoldable pub polygon_with : (ℕ → ℕ) → Numbers → List ℕ → Polygon
+-- its corners are by their places in the list of vertices; an unused one is 0
+unfoldable pub polygon_with : (ℕ → Option ℕ) → Numbers → List ℕ → Polygon
 polygon_with stands a places = record {
   attributes = a.attributes;
   texture = a.texture;
   palette = a.palette;
   viewport = a.viewport;
   corners = length places;
-  indices = indices_of stands places;
+  indices = map (λ p. unwrap_or (stands p) 0) places ++ replicate (4 - length places) 0;
 }
 
 -- the polygon that the last vertex makes, if it does
-abbrev pub polygon_at : (ℕ → ℕ) → List Vertex → Numbers → List ℕ → Option Polygon
+abbrev pub polygon_at : (ℕ → Option ℕ) → List Vertex → Numbers → List ℕ → Option Polygon
 polygon_at stands came a places =
     if has_corners stands places && may_be_seen stands came a places then Some (polygon_with stands a places) else None
 
-abbrev pub polygon_by : Option ℕ → (ℕ → ℕ) → List Vertex → Numbers → Option Polygon
+abbrev pub polygon_by : Option ℕ → (ℕ → Option ℕ) → List Vertex → Numbers → Option Polygon
 polygon_by None stands came a = None
 polygon_by (Some k) stands came a = polygon_at stands came a (corners a.kind k)
 
@@ -113,5 +112,5 @@ polygon_by (Some k) stands came a = polygon_at stands came a (corners a.kind k)
 unfoldable pub polygon_of : List Vertex → Numbers → Option Polygon
 polygon_of came a = polygon_by (completed a.kind (last_place a)) (place_since came a) came a
 
-unfoldable pub polygon_among : List ℕ → List Vertex → Numbers → Option Polygon
+unfoldable pub polygon_among : List (Option ℕ) → List Vertex → Numbers → Option Polygon
 polygon_among four came a = polygon_by (completed a.kind (last_place a)) (place_among four a) came a

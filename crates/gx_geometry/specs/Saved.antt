@@ -1,4 +1,6 @@
-use Rattle.std.specs.Prelude.{ℕ, ℤ, ◌==◌, ◌&&◌, ◌||◌, not, nat_le, Bool, List, [], ◌∷◌, length, pos, slice_index, slice_index_or}
+use Rattle.std.specs.Prelude.{ℕ, ℤ, ◌==◌, ◌&&◌, ◌||◌, not, nat_le, Bool, List, [], ◌∷◌, length, map, pos, slice_index, slice_index_or, Option, Some, None, if◌then◌else◌}
+use Rattle.std.specs.List.{list_all}
+use Rattle.std.specs.Option.{unwrap_or}
 use Rattle.ds_state.specs.Formats.{Format, number_code, flag_code, signed_word, signed_half_code, array, done, ◌>>=◌, one_field, its, each, any, at_most, signed_format}
 use Rattle.gx_matrix.specs.Saved.{stacks_format}
 use Rattle.gx_geometry.specs.declared.numbers.Kind.{Kind}
@@ -82,10 +84,16 @@ run_kind_number Quads = 1
 run_kind_number TriangleStrip = 2
 run_kind_number QuadStrip = 3
 
+-- where a vertex stands in the open list: FFFFh is nowhere
+abbrev pub place_number : Option ℕ → ℕ
+place_number place = unwrap_or place 0xFFFF
+
+abbrev pub place_of_number : ℕ → Option ℕ
+place_of_number n = if n == 0xFFFF then None else Some n
+
 -- how many vertices the open list has, by which the run's last three must be places of it
-abbrev pub holds_recent : ℕ → ℕ → ℕ → ℕ → ℕ → Bool
-holds_recent first second third at long =
-    nat_le long most_vertices && (is_place long first && (is_place long second && is_place long third))
+abbrev pub holds_recent : List (Option ℕ) → ℕ → ℕ → Bool
+holds_recent recent at long = nat_le long most_vertices && list_all (is_place long) recent
 
 abbrev pub signed_at : List ℤ → ℕ → ℤ
 signed_at numbers i = slice_index_or numbers i (pos 0)
@@ -124,15 +132,15 @@ geometry_format = do
   light_3 ← its light_format (λ g. slice_index_or g.numbers.lights 3 no_light)
   kind ← one_field (number_code 1) (λ g. run_kind_number g.numbers.kind) (at_most 3)
   run ← one_field (number_code 8) (λ g. g.numbers.run) (λ at run. nat_le run at)
-  first ← one_field (number_code 2) (λ g. slice_index g.outcome.recent 0) (λ at place. is_told run 3 place)
-  second ← one_field (number_code 2) (λ g. slice_index g.outcome.recent 1) (λ at place. is_told run 2 place)
-  third ← one_field (number_code 2) (λ g. slice_index g.outcome.recent 2) (λ at place. is_told run 1 place)
+  first ← one_field (number_code 2) (λ g. place_number (slice_index_or g.outcome.recent 0 None)) (λ at n. is_told run 3 (place_of_number n))
+  second ← one_field (number_code 2) (λ g. place_number (slice_index_or g.outcome.recent 1 None)) (λ at n. is_told run 2 (place_of_number n))
+  third ← one_field (number_code 2) (λ g. place_number (slice_index_or g.outcome.recent 2 None)) (λ at n. is_told run 1 (place_of_number n))
   position ← each 4 signed_format (λ g. g.outcome.position)
   vector_x ← one_field signed_half_code (λ g. signed_at g.outcome.vector 0) any
   vector_y ← one_field signed_half_code (λ g. signed_at g.outcome.vector 1) any
   vector_z ← one_field signed_half_code (λ g. signed_at g.outcome.vector 2) any
   inside ← one_field flag_code (λ g. g.outcome.inside) any
-  vertex_count ← one_field (number_code 4) (λ g. length g.outcome.vertices) (holds_recent first second third)
+  vertex_count ← one_field (number_code 4) (λ g. length g.outcome.vertices) (holds_recent (map place_of_number (first ∷ second ∷ third ∷ [])))
   polygon_count ← one_field (number_code 4) (λ g. length g.outcome.polygons) (at_most most_polygons)
   vertices ← each vertex_count vertex_format (λ g. g.outcome.vertices)
   polygons ← each polygon_count polygon_format (λ g. g.outcome.polygons)
@@ -163,7 +171,7 @@ geometry_format = do
       vertices = vertices;
       polygons = polygons;
       overflow = overflow;
-      recent = first ∷ second ∷ third ∷ [];
+      recent = map place_of_number (first ∷ second ∷ third ∷ []);
     };
     last = last;
   })

@@ -1,4 +1,4 @@
-use Rattle.std.specs.Prelude.{ℕ, ℤ, nat_le, FitsSigned, Bool, List, [], ◌∷◌, ◌≡◌, ◌<◌, ◌^◌, length, pos, slice_index, slice_index_or}
+use Rattle.std.specs.Prelude.{ℕ, ℤ, nat_le, FitsSigned, Bool, List, [], ◌∷◌, ◌≡◌, ◌<◌, ◌^◌, length, map, pos, slice_index, slice_index_or, None}
 use Rattle.std.specs.Int.{w16, w32}
 use Rattle.ds_state.specs.Formats.{Format, number_code, flag_code, signed_half_code, array, done, ◌>>=◌, one_field, its, each, any, at_most, signed_format}
 use Rattle.gx_matrix.specs.Saved.{stacks_format}
@@ -12,7 +12,7 @@ use Rattle.gx_geometry.specs.declared.results.Results.{Results}
 use Rattle.gx_geometry.specs.Bounds.{is_told}
 use Rattle.gx_geometry.specs.Numbers.{kind_of, no_light}
 use Rattle.gx_geometry.specs.Polygons.{most_polygons}
-use Rattle.gx_geometry.specs.Saved.{holds_recent, light_format, lists_format, polygon_format, run_kind_number, signed_at, vertex_format}
+use Rattle.gx_geometry.specs.Saved.{holds_recent, light_format, lists_format, place_number, place_of_number, polygon_format, run_kind_number, signed_at, vertex_format}
 use Rattle.gx_geometry.specs.States.{GeometryState, OutcomeState}
 
 -- The parts in which the code takes the engine from bytes (our choice of form). No public call speaks of them.
@@ -115,11 +115,11 @@ geometry_parts = do
   lighting ← its lighting_format (λ g. lighting_numbers g.numbers)
   kind ← one_field (number_code 1) (λ g. run_kind_number g.numbers.kind) (at_most 3)
   run ← one_field (number_code 8) (λ g. g.numbers.run) run_until
-  first ← one_field (number_code 2) (λ g. slice_index g.outcome.recent 0) (λ at place. is_told run 3 place)
-  second ← one_field (number_code 2) (λ g. slice_index g.outcome.recent 1) (λ at place. is_told run 2 place)
-  third ← one_field (number_code 2) (λ g. slice_index g.outcome.recent 2) (λ at place. is_told run 1 place)
+  first ← one_field (number_code 2) (λ g. place_number (slice_index_or g.outcome.recent 0 None)) (λ at n. is_told run 3 (place_of_number n))
+  second ← one_field (number_code 2) (λ g. place_number (slice_index_or g.outcome.recent 1 None)) (λ at n. is_told run 2 (place_of_number n))
+  third ← one_field (number_code 2) (λ g. place_number (slice_index_or g.outcome.recent 2 None)) (λ at n. is_told run 1 (place_of_number n))
   results ← its results_format (λ g. test_results g.outcome)
-  vertex_count ← one_field (number_code 4) (λ g. length g.outcome.vertices) (holds_recent first second third)
+  vertex_count ← one_field (number_code 4) (λ g. length g.outcome.vertices) (holds_recent (map place_of_number (first ∷ second ∷ third ∷ [])))
   polygon_count ← one_field (number_code 4) (λ g. length g.outcome.polygons) (at_most most_polygons)
   vertices ← each vertex_count vertex_format (λ g. g.outcome.vertices)
   polygons ← each polygon_count polygon_format (λ g. g.outcome.polygons)
@@ -150,7 +150,7 @@ geometry_parts = do
       vertices = vertices;
       polygons = polygons;
       overflow = overflow;
-      recent = first ∷ second ∷ third ∷ [];
+      recent = map place_of_number (first ∷ second ∷ third ∷ []);
     };
     last = last;
   })

@@ -1,4 +1,4 @@
-use Rattle.std.specs.Prelude.{ℕ, ◌≡◌, nat_lt, if◌then◌else◌, Bool, true, false, ℤ, pos, List, [], ◌∷◌, ◌++◌, length, slice_index, Option, Some, None}
+use Rattle.std.specs.Prelude.{ℕ, ◌≡◌, nat_lt, if◌then◌else◌, Bool, true, false, ℤ, pos, List, [], ◌∷◌, ◌++◌, length, slice_index, slice_index_or, Option, Some, None}
 use Rattle.ds_base.specs.declared.ticks.Tick.{Tick}
 use Rattle.gx_matrix.specs.Commands.{clip_of}
 use Rattle.gx_matrix.specs.declared.commands.GeometryCommand.{GeometryCommand}
@@ -11,7 +11,7 @@ use Rattle.gx_geometry.specs.Numbers.{numbers_at_boot, point_by_halves}
 use Rattle.gx_geometry.specs.Boxes.{through, box_test}
 use Rattle.gx_geometry.specs.Coordinates.{vector_test}
 use Rattle.gx_geometry.specs.Changes.{numbers_after, gives_vertex}
-use Rattle.gx_geometry.specs.Polygons.{vertex_of, no_place, polygon_among, most_vertices, most_polygons}
+use Rattle.gx_geometry.specs.Polygons.{vertex_of, polygon_among, most_vertices, most_polygons}
 use Rattle.gx_geometry.specs.ListLaws.{GeometryAct, Command, ClearError, ClearOverflow, AreLists, IsOverflow}
 use Rattle.gx_geometry.specs.Lists.{numbers_cleared}
 
@@ -37,20 +37,20 @@ pub record OutcomeState : Type 0 where
   pub polygons : List Polygon
   -- GBATEK, DISP3DCNT bit 13
   pub overflow : Bool
-  -- where the run's last three vertices stand in the open list, the oldest first
-  pub recent : List ℕ
+  -- where the run's last three vertices stand in the open list, if they do, the oldest first
+  pub recent : List (Option ℕ)
 
 pub record GeometryState : Type 0 where
   pub numbers : Numbers
   pub outcome : OutcomeState
   pub last : Swapped
 
-abbrev pub none_recent : List ℕ
-none_recent = no_place ∷ no_place ∷ no_place ∷ []
+abbrev pub none_recent : List (Option ℕ)
+none_recent = None ∷ None ∷ None ∷ []
 
 -- a run's next vertex comes
-abbrev pub then_recent : ℕ → List ℕ → List ℕ
-then_recent place recent = slice_index recent 1 ∷ slice_index recent 2 ∷ place ∷ []
+abbrev pub then_recent : Option ℕ → List (Option ℕ) → List (Option ℕ)
+then_recent place recent = slice_index_or recent 1 None ∷ slice_index_or recent 2 None ∷ place ∷ []
 
 -- nothing was tested, no vertex came and nothing was swapped at boot (our choice)
 abbrev pub no_swap : Swapped
@@ -102,14 +102,15 @@ polygon_added (Some p) o =
     if nat_lt (length o.polygons) most_polygons then record o { polygons = o.polygons ++ p ∷ [] } else overflown o
 
 abbrev pub vertex_added : Vertex → OutcomeState → OutcomeState
-vertex_added v o = record o { vertices = o.vertices ++ v ∷ []; recent = then_recent (length o.vertices) o.recent }
+vertex_added v o = record o { vertices = o.vertices ++ v ∷ []; recent = then_recent (Some (length o.vertices)) o.recent }
 
 abbrev pub vertex_dropped : OutcomeState → OutcomeState
-vertex_dropped o = record (overflown o) { recent = then_recent no_place o.recent }
+vertex_dropped o = record (overflown o) { recent = then_recent None o.recent }
 
 -- where the run's last three vertices and the next one stand
-abbrev pub four_recent : OutcomeState → List ℕ
-four_recent o = slice_index o.recent 0 ∷ slice_index o.recent 1 ∷ slice_index o.recent 2 ∷ length o.vertices ∷ []
+abbrev pub four_recent : OutcomeState → List (Option ℕ)
+four_recent o =
+    slice_index_or o.recent 0 None ∷ slice_index_or o.recent 1 None ∷ slice_index_or o.recent 2 None ∷ Some (length o.vertices) ∷ []
 
 unfoldable pub arrived : Numbers → OutcomeState → OutcomeState
 arrived a o =

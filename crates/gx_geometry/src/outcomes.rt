@@ -1,6 +1,6 @@
 //! What commands bring about beside the numbers: the results of tests, and the open lists.
 
-ghost use Rattle.std.specs.Prelude.{◌≡◌, ◌<◌, ◌≤◌, ◌^◌, true, false, length, IfOk, IfSome};
+ghost use Rattle.std.specs.Prelude.{◌≡◌, ◌<◌, ◌≤◌, ◌^◌, true, false, length, IfOk, IfSome, Some};
 ghost use Rattle.gx_matrix.specs.CommandTable.{HasParameters};
 ghost use Rattle.gx_geometry.specs.Polygons.{polygon_among, most_vertices};
 ghost use Rattle.gx_geometry.specs.States.{no_outcome, four_recent, then_recent, results_of, tested, polygon_added, vertex_added, arrived, lists_emptied};
@@ -13,11 +13,13 @@ use crate::capped::Capped;
 use crate::coordinates::vector_test;
 use crate::lists::{Lists, POLYGONS, VERTICES};
 use crate::numbers::{Numbers, point_by_halves};
-use crate::polygons::{NOWHERE, Polygon, Vertex, polygon_of, vertex_of};
+use crate::polygons::{Polygon, Vertex, polygon_of, vertex_of};
 use crate::results::Results;
 use ds_base::Tick;
 use gx_matrix::GeometryCommand;
-pub use saved::{put_results, take_length, take_place, take_results};
+pub use saved::{
+    place_number, place_of_number, put_results, take_length, take_place, take_results,
+};
 use std::alloc::{AllocError, Global};
 use std::marker::Model;
 
@@ -27,8 +29,8 @@ pub struct Outcome {
     results: Results,
     vertices: Capped<Vertex, VERTICES>,
     polygons: Capped<Polygon, POLYGONS>,
-    /// Where the run's last three vertices stand among them, the oldest first.
-    recent: [u16; 3],
+    /// Where the run's last three vertices stand among them, if they do, the oldest first.
+    recent: [Option<u16>; 3],
 }
 
 impl Model for Outcome {
@@ -55,7 +57,7 @@ impl Model for Outcome {
 }
 
 /// The places of a run's last three vertices when the next one comes.
-fn then_recent(place: u16, recent: [u16; 3]) -> [u16; 3]
+fn then_recent(place: Option<u16>, recent: [Option<u16>; 3]) -> [Option<u16>; 3]
     ensures { result ≡ then_recent place recent }
 {
     [recent[1], recent[2], place]
@@ -80,7 +82,7 @@ impl Outcome {
             },
             vertices,
             polygons,
-            recent: [NOWHERE; 3],
+            recent: [None; 3],
         })
     }
 
@@ -106,25 +108,25 @@ impl Outcome {
         requires colour { vertex.colour < 2 ^ 15 }
         ensures { self.new ≡ vertex_added vertex self.old }
     {
-        self.recent = then_recent(self.results.vertices, self.recent);
+        self.recent = then_recent(Some(self.results.vertices), self.recent);
         self.vertices.push(vertex);
         self.results.vertices += 1;
     }
 
     /// Where the run's last three vertices and the next one stand.
-    fn four_recent(&self) -> [u16; 4]
+    fn four_recent(&self) -> [Option<u16>; 4]
         ensures { result ≡ four_recent self.now }
     {
         [
             self.recent[0],
             self.recent[1],
             self.recent[2],
-            self.results.vertices,
+            Some(self.results.vertices),
         ]
     }
 
     /// The polygon that the last vertex of the open list makes, if it does, by where the run's last four stand.
-    fn completed(&self, four: [u16; 4], s: &Numbers) -> Option<Polygon>
+    fn completed(&self, four: [Option<u16>; 4], s: &Numbers) -> Option<Polygon>
         requires run { 1 ≤ s.now.run }
         requires palette { s.now.palette < 2 ^ 13 }
         ensures value { result ≡ polygon_among four self.now.vertices s.now }
@@ -147,7 +149,7 @@ impl Outcome {
             let polygon = self.completed(four, s);
             self.add_polygon(polygon);
         } else {
-            self.recent = then_recent(NOWHERE, self.recent);
+            self.recent = then_recent(None, self.recent);
             self.results.overflow = true;
         }
     }
@@ -167,7 +169,7 @@ impl Outcome {
             GeometryCommand::VecTest => {
                 self.results.vector = vector_test(params[0], &s.stacks.vector())
             }
-            GeometryCommand::BeginVtxs => self.recent = [NOWHERE; 3],
+            GeometryCommand::BeginVtxs => self.recent = [None; 3],
             _ => (),
         }
     }
@@ -182,7 +184,7 @@ impl Outcome {
         last.take(now, parameter, &mut self.vertices, &mut self.polygons);
         self.results.vertices = 0;
         self.results.polygons = 0;
-        self.recent = [NOWHERE; 3];
+        self.recent = [None; 3];
     }
 
     /// The lists' overflow is cleared.

@@ -1,8 +1,9 @@
 //! Vertices and polygons, as the lists of a swap have them.
 
 ghost use Rattle.std.specs.Prelude.{◌≡◌, ◌≤◌, ◌-◌, ◌^◌, ◌-ℤ◌, ◌+ℤ◌, ◌*ℤ◌, ◌≤ℤ◌, pos, negsuc, true, length, slice_index, slice_index_or, IfSome};
+ghost use Rattle.std.specs.Option.{unwrap_or};
 ghost use Rattle.ds_base.specs.Bits.{bit};
-ghost use Rattle.gx_geometry.specs.Polygons.{vertex_of, minor, times_minor, determinant, is_kept, no_vertex, polygon_among};
+ghost use Rattle.gx_geometry.specs.Polygons.{vertex_of, vertex_at, minor, times_minor, determinant, is_kept, polygon_among};
 ghost use Rattle.gx_geometry.specs.BoundLaws.{is_shaped};
 ghost use Rattle.gx_geometry.specs.Backs.{shape_of, corners_back, index_back, reaches_back, seen_back, indices_back, polygon_back, polygon_by_shape};
 
@@ -48,9 +49,6 @@ pub struct Polygon {
     /// Their places in the list of vertices; the fourth is 0 where there are three.
     pub indices: [u16; 4],
 }
-
-/// A place in the list of vertices that a vertex doesn't have.
-pub const NOWHERE: u16 = 0xFFFF;
 
 const NO_VERTEX: Vertex = Vertex {
     x: 0,
@@ -234,7 +232,7 @@ fn corner_count(shape: Shape) -> u8
 }
 
 /// Where the first three corners of a shape stand, by where the run's last four vertices do.
-fn first_corners(four: [u16; 4], shape: Shape) -> (u16, u16, u16)
+fn first_corners(four: [Option<u16>; 4], shape: Shape) -> (Option<u16>, Option<u16>, Option<u16>)
     ensures zero { result.0 ≡ index_back four (slice_index (corners_back shape) 0) }
     ensures one { result.1 ≡ index_back four (slice_index (corners_back shape) 1) }
     ensures two { result.2 ≡ index_back four (slice_index (corners_back shape) 2) }
@@ -249,35 +247,40 @@ fn first_corners(four: [u16; 4], shape: Shape) -> (u16, u16, u16)
 
 /// Where all its corners stand; an unused one is 0.
 #[tactic(auto, unfolding(crate::specs::Backs::indices_back))]
-fn indices_of(four: [u16; 4], shape: Shape) -> [u16; 4]
+fn indices_of(four: [Option<u16>; 4], shape: Shape) -> [u16; 4]
     ensures { result ≡ indices_back four shape }
 {
+    let (a, b) = (four[0].unwrap_or(0), four[1].unwrap_or(0));
+    let (c, d) = (four[2].unwrap_or(0), four[3].unwrap_or(0));
     match shape {
-        Shape::Triangle => [four[1], four[2], four[3], 0],
-        Shape::TurnedTriangle => [four[2], four[1], four[3], 0],
-        Shape::Quad => [four[0], four[1], four[2], four[3]],
-        Shape::StripQuad => [four[0], four[1], four[3], four[2]],
+        Shape::Triangle => [b, c, d, 0],
+        Shape::TurnedTriangle => [c, b, d, 0],
+        Shape::Quad => [a, b, c, d],
+        Shape::StripQuad => [a, b, d, c],
     }
 }
 
 /// Whether none of its corners stands nowhere.
 #[tactic(auto, unfolding(crate::specs::Backs::reaches_back))]
-fn reaches_back(four: [u16; 4], shape: Shape) -> bool
+fn reaches_back(four: [Option<u16>; 4], shape: Shape) -> bool
     ensures { result ≡ reaches_back four shape }
 {
     let (a, b, c) = first_corners(four, shape);
-    let three = a != NOWHERE && b != NOWHERE && c != NOWHERE;
+    let three = a.is_some() && b.is_some() && c.is_some();
     match shape {
         Shape::Triangle | Shape::TurnedTriangle => three,
-        Shape::Quad => three && four[3] != NOWHERE,
-        Shape::StripQuad => three && four[2] != NOWHERE,
+        Shape::Quad => three && four[3].is_some(),
+        Shape::StripQuad => three && four[2].is_some(),
     }
 }
 
 /// The vertex of a place, and none past the last.
-fn vertex_at(came: &[Vertex], place: u16) -> Vertex
-    ensures { result ≡ slice_index_or came.now place no_vertex }
+fn vertex_at(came: &[Vertex], place: Option<u16>) -> Vertex
+    ensures { result ≡ vertex_at came.now place }
 {
+    let Some(place) = place else {
+        return NO_VERTEX;
+    };
     match came.get(place as usize) {
         Some(vertex) => *vertex,
         None => NO_VERTEX,
@@ -286,7 +289,7 @@ fn vertex_at(came: &[Vertex], place: u16) -> Vertex
 
 /// Whether a polygon's side may be seen.
 #[tactic(auto, using(gx_matrix::proofs::Sums::casts), unfolding(crate::specs::Backs::seen_back))]
-fn may_be_seen(came: &[Vertex], four: [u16; 4], attributes: u32, shape: Shape) -> bool
+fn may_be_seen(came: &[Vertex], four: [Option<u16>; 4], attributes: u32, shape: Shape) -> bool
     ensures { result ≡ seen_back four came.now attributes shape }
 {
     let (a, b, c) = first_corners(four, shape);
@@ -295,7 +298,7 @@ fn may_be_seen(came: &[Vertex], four: [u16; 4], attributes: u32, shape: Shape) -
 }
 
 #[tactic(auto, unfolding(crate::specs::Backs::polygon_back))]
-fn polygon_with(four: [u16; 4], s: &Numbers, shape: Shape) -> Polygon
+fn polygon_with(four: [Option<u16>; 4], s: &Numbers, shape: Shape) -> Polygon
     ensures value { result ≡ polygon_back four s.now shape }
     ensures palette { result.palette ≡ s.now.palette }
     ensures shape { is_shaped result ≡ true }
@@ -310,7 +313,7 @@ fn polygon_with(four: [u16; 4], s: &Numbers, shape: Shape) -> Polygon
     }
 }
 
-fn polygon_by_shape(came: &[Vertex], four: [u16; 4], s: &Numbers) -> Option<Polygon>
+fn polygon_by_shape(came: &[Vertex], four: [Option<u16>; 4], s: &Numbers) -> Option<Polygon>
     requires { 1 ≤ s.now.run }
     ensures value { result ≡ polygon_by_shape (shape_of s.now.kind (s.now.run - 1)) four came.now s.now }
     ensures palette { IfSome result (λ p. p.palette ≡ s.now.palette) }
@@ -325,7 +328,7 @@ fn polygon_by_shape(came: &[Vertex], four: [u16; 4], s: &Numbers) -> Option<Poly
 
 /// The polygon that the last of these vertices makes, if it does, by where the run's last four stand.
 #[tactic(auto, using(crate::proofs::Backs::by_shape))]
-pub fn polygon_of(came: &[Vertex], four: [u16; 4], s: &Numbers) -> Option<Polygon>
+pub fn polygon_of(came: &[Vertex], four: [Option<u16>; 4], s: &Numbers) -> Option<Polygon>
     requires { 1 ≤ s.now.run }
     ensures value { result ≡ polygon_among four came.now s.now }
     ensures palette { IfSome result (λ p. p.palette ≡ s.now.palette) }

@@ -2,8 +2,9 @@ use Rattle.run_ahead.proofs.Words.{rules, ℕ, zero, suc, ◌≡◌, ◌+◌, �
 use Rattle.run_ahead.proofs.Words.{Option, Some, None, Ok, sym, ◌∙◌, ap, subst, arith, Proc, Nine, Seven, Format, done, then_field, then_part, list}
 use Rattle.run_ahead.proofs.Words.{code_width, Left, ◌>>=◌, read_format, head_format, ConsoleState, console_of, format_behind, read_console}
 use Rattle.run_ahead.proofs.Words.{read_state}
-use Rattle.std.proofs.Common.{nat_le}
+use Rattle.std.proofs.Common.{map, nat_le}
 use Rattle.std.proofs.lemmas.Bool.{and_parts}
+use Rattle.std.specs.List.{list_all}
 use Rattle.arm_core.specs.Saved.{registers_format}
 use Rattle.cp15_tcm.specs.Saved.{cp15_format}
 use Rattle.ds_base.specs.Numbers.{width_bytes, zeroes}
@@ -20,8 +21,9 @@ use Rattle.ds_timers.specs.Saved.{irq_format_by, timer_format, timers_format}
 use Rattle.ds_base.specs.declared.keys.KeyLine.{KeyLine}
 use Rattle.ds_machine.specs.Saved.{machine_format, saved_size}
 use Rattle.gx_fifo.specs.Saved.{count_by, entry_format, gx_format_by}
-use Rattle.gx_geometry.specs.Saved.{geometry_format, holds_recent, light_format, lists_format, polygon_format, unless_none, vertex_format}
+use Rattle.gx_geometry.specs.Saved.{geometry_format, holds_recent, light_format, lists_format, place_of_number, polygon_format, unless_none, vertex_format}
 use Rattle.gx_geometry.specs.Bounds.{is_place}
+use Rattle.gx_geometry.specs.Polygons.{most_vertices}
 use Rattle.gx_matrix.specs.Saved.{matrix_format, stacks_format}
 use Rattle.video2d.specs.DisplayRegisters.{display_row, engine_bytes, engine_registers}
 use Rattle.video2d.specs.declared.display_registers.DisplayRegister.{DisplayRegister}
@@ -43,8 +45,8 @@ most a b h = grind (arith, h)
 swapped_few : (tick n greatest at : ℕ) → unless_none tick greatest at n ≡ true → n ≤ greatest
 swapped_few tick n greatest at kept = most n greatest (and_parts (nat_le n greatest) (not (tick == 0) || n == 0) kept).0
 
-open_few : (first second third at n : ℕ) → holds_recent first second third at n ≡ true → n ≤ 6144
-open_few first second third at n kept = most n 6144 (and_parts (nat_le n 6144) (is_place n first && (is_place n second && is_place n third)) kept).0
+open_few : (recent : List (Option ℕ)) (at n : ℕ) → holds_recent recent at n ≡ true → n ≤ most_vertices
+open_few recent at n kept = most n most_vertices (and_parts (nat_le n most_vertices) (list_all (is_place n) recent) kept).0
 
 entries_few : (asked : ℕ → ℕ → Bool) (selector at n : ℕ) → count_by asked selector at n ≡ true → n ≤ 324
 entries_few asked selector at n kept = most n 324 (and_parts (asked selector n) (nat_le n 324) kept).1
@@ -181,7 +183,7 @@ module _ (at : ℕ) where
   few_geometry = (4357, few_stacks) ⨾ λ stacks overflow _ parameter _ colour _ x _ y _ z _ raw_s _ raw_t _ s _ t _ set _ attributes _ texture _ palette _ viewport _
       diffuse _ ambient _ specular _ emission _ by_table _ table _. (14, few_light) ⨾ λ light_0. (14, few_light) ⨾ λ light_1. (14, few_light) ⨾ λ light_2.
       (14, few_light) ⨾ λ light_3 kind _ run _ first _ second _ third _. (4, few_signed) ⨾ λ position vector_x _ vector_y _ vector_z _ inside _
-      vertices kept polygons kept₂. (let a = open_few first second third at vertices kept in let b = most polygons 2048 kept₂ in
+      vertices kept polygons kept₂. (let a = open_few (map place_of_number (first ∷ second ∷ third ∷ [])) at vertices kept in let b = most polygons 2048 kept₂ in
       (22, few_vertex) ⨾ λ vs. (25, few_polygon) ⨾ λ ps. (186388, few_lists) ⨾ λ last. omega (arith, a, b))
 
   few_entry : ReadsFew at 5 0 entry_format

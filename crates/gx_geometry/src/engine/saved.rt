@@ -12,7 +12,9 @@ use crate::lists::{Lists, put_polygons, put_vertices, take_polygons, take_vertic
 use crate::numbers::{
     Numbers, kind_of, put_current, put_lighting, run_kind_number, take_current, take_lighting,
 };
-use crate::outcomes::{Outcome, put_results, take_length, take_place, take_results};
+use crate::outcomes::{
+    Outcome, place_number, place_of_number, put_results, take_length, take_place, take_results,
+};
 use crate::widths::{are_current, are_lighting, are_polygons, are_results, are_vertices};
 use ds_base::{Tick, known};
 use ds_state::{Packer, Unpacked, Unpacker, holds};
@@ -42,9 +44,9 @@ impl Geometry {
         into.put_u8(run_kind_number(self.numbers.kind))?;
         into.put_u64(self.numbers.run)?;
         let recent = self.outcome.recent();
-        into.put_u16(recent[0])?;
-        into.put_u16(recent[1])?;
-        into.put_u16(recent[2])?;
+        into.put_u16(place_number(recent[0]))?;
+        into.put_u16(place_number(recent[1]))?;
+        into.put_u16(place_number(recent[2]))?;
         put_results(into, self.outcome.results())?;
         into.put_u32(self.outcome.vertices().len() as u32)?;
         into.put_u32(self.outcome.polygons().len() as u32)?;
@@ -87,7 +89,11 @@ impl Geometry {
         let first = take_place(from, run, 3)?;
         let second = take_place(from, run, 2)?;
         let third = take_place(from, run, 1)?;
-        let recent = [first, second, third];
+        let recent = [
+            place_of_number(first),
+            place_of_number(second),
+            place_of_number(third),
+        ];
         let results = take_results(from, at.0)?;
         let vertex_count = take_length(from, recent)?;
         let polygon_count = from.take_word_at_most(2048)?;

@@ -1,17 +1,17 @@
 //! The results of tests in bytes, and what stands beside them.
 
-ghost use Rattle.std.specs.Prelude.{◌≡◌, ◌≤◌, true, slice_index, length, IfOk, OnOk};
+ghost use Rattle.std.specs.Prelude.{◌≡◌, ◌≤◌, true, length, IfOk, OnOk};
 ghost use Rattle.ds_state.specs.Formats.{bytes_written, number_code};
 ghost use Rattle.ds_state.specs.Reading.{GivesRead, read_code, read_format, ruled};
 ghost use Rattle.gx_geometry.specs.Bounds.{is_place, is_told};
 ghost use Rattle.gx_geometry.specs.BoundLaws.{AreLimited, ArePlaces};
-ghost use Rattle.gx_geometry.specs.Saved.{holds_recent};
+ghost use Rattle.gx_geometry.specs.Saved.{holds_recent, place_number, place_of_number};
 ghost use Rattle.gx_geometry.specs.SavedKept.{results_format, results_seen};
 
 use crate::capped::Capped;
 use crate::lists::{POLYGONS, VERTICES};
 use crate::outcomes::Outcome;
-use crate::polygons::{NOWHERE, Polygon, Vertex};
+use crate::polygons::{Polygon, Vertex};
 use crate::results::Results;
 use ds_state::{Packer, Unpacked, Unpacker, holds, put_list, take_each};
 use std::alloc::AllocError;
@@ -50,27 +50,52 @@ pub fn take_results(from: &mut Unpacker, at: u64) -> Result<Results, Unpacked>
     })
 }
 
-/// Takes the place of a run's vertex, the last but so many; one that the run doesn't have stands nowhere.
-pub fn take_place(from: &mut Unpacker, run: u64, back: u64) -> Result<u16, Unpacked>
-    ensures reads { GivesRead (λ p. p) result from.new (ruled (is_told run back) from.old (read_code (number_code 2) from.old)) }
-    ensures told { IfOk result (λ p. is_told run back p ≡ true) }
+/// The bytes' number of what stands nowhere.
+const NOWHERE: u16 = 0xFFFF;
+
+/// The number of a place in bytes.
+pub fn place_number(place: Option<u16>) -> u16
+    ensures { result ≡ place_number place }
 {
-    let offset = from.place();
-    let place = from.take_u16()?;
-    holds(place == NOWHERE || back <= run, offset)?;
-    Ok(place)
+    place.unwrap_or(NOWHERE)
 }
 
-fn is_place(long: u32, place: u16) -> bool
+/// The place that a number in bytes tells.
+pub fn place_of_number(number: u16) -> Option<u16>
+    ensures { result ≡ place_of_number number }
+{
+    if number == NOWHERE {
+        None
+    } else {
+        Some(number)
+    }
+}
+
+/// Takes the number of the place of a run's vertex, the last but so many; one that the run doesn't have stands nowhere.
+pub fn take_place(from: &mut Unpacker, run: u64, back: u64) -> Result<u16, Unpacked>
+    ensures reads { GivesRead (λ p. p) result from.new
+        (ruled (λ n. is_told run back (place_of_number n)) from.old (read_code (number_code 2) from.old)) }
+    ensures told { IfOk result (λ n. is_told run back (place_of_number n) ≡ true) }
+{
+    let offset = from.place();
+    let number = from.take_u16()?;
+    holds(place_of_number(number).is_none() || back <= run, offset)?;
+    Ok(number)
+}
+
+fn is_place(long: u32, place: Option<u16>) -> bool
     ensures { result ≡ is_place long place }
 {
-    place == NOWHERE || (place as u32) < long
+    match place {
+        Some(place) => (place as u32) < long,
+        None => true,
+    }
 }
 
 /// Takes how many vertices the open list has, of which the run's last three are some.
-pub fn take_length(from: &mut Unpacker, recent: [u16; 3]) -> Result<u32, Unpacked>
+pub fn take_length(from: &mut Unpacker, recent: [Option<u16>; 3]) -> Result<u32, Unpacked>
     ensures reads { GivesRead (λ n. n) result from.new
-        (ruled (holds_recent (slice_index recent 0) (slice_index recent 1) (slice_index recent 2) 0) from.old (read_code (number_code 4) from.old)) }
+        (ruled (holds_recent recent 0) from.old (read_code (number_code 4) from.old)) }
     ensures most { IfOk result (λ n. n ≤ 6144) }
     ensures places { IfOk result (λ n. ArePlaces n recent) }
 {
@@ -88,7 +113,7 @@ impl Outcome {
     pub fn of(
         results: Results,
         overflow: bool,
-        recent: [u16; 3],
+        recent: [Option<u16>; 3],
         vertices: Capped<Vertex, VERTICES>,
         polygons: Capped<Polygon, POLYGONS>,
     ) -> Outcome
@@ -118,7 +143,7 @@ impl Outcome {
     }
 
     /// Where the run's last three vertices stand in the open list.
-    pub fn recent(&self) -> [u16; 3]
+    pub fn recent(&self) -> [Option<u16>; 3]
         ensures { result ≡ self.now.recent }
     {
         self.recent

@@ -8,7 +8,7 @@ ghost use Rattle.gx_geometry.specs.SavedKept.{run_until};
 ghost use Rattle.gx_geometry.specs.SavedLaws.{GeometryIsSaved, HasBounds};
 
 use crate::engine::Geometry;
-use crate::lists::{Lists, put_polygons, put_vertices, take_polygons, take_vertices};
+use crate::lists::{Lists, POLYGONS, put_polygons, put_vertices, take_polygons, take_vertices};
 use crate::numbers::{
     Numbers, kind_of, put_current, put_lighting, run_kind_number, take_current, take_lighting,
 };
@@ -96,7 +96,7 @@ impl Geometry {
         ];
         let results = take_results(from, at.0)?;
         let vertex_count = take_length(from, recent)?;
-        let polygon_count = from.take_word_at_most(2048)?;
+        let polygon_count = from.take_word_at_most(POLYGONS as u32)?;
         let vertices = take_vertices(alloc, from, vertex_count, at.0)?;
         let polygons = take_polygons(alloc, from, polygon_count, at.0)?;
         let last = Lists::unpack(alloc, from, at.0)?;

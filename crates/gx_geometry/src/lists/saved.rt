@@ -4,6 +4,7 @@ ghost use Rattle.std.specs.Prelude.{◌≡◌, ◌<◌, ◌≤◌, length, IfOk,
 ghost use Rattle.ds_state.specs.Formats.{bytes_written, number_code, written_each};
 ghost use Rattle.ds_state.specs.Reading.{GivesIn, GivesRead, read_code, read_format, read_list, ruled};
 ghost use Rattle.gx_geometry.specs.BoundLaws.{AreLimited, HaveColours, HavePalettes, HaveShapes};
+ghost use Rattle.gx_geometry.specs.Polygons.{most_polygons, most_vertices};
 ghost use Rattle.gx_geometry.specs.SavedLaws.{AreSwapped};
 ghost use Rattle.gx_geometry.specs.Saved.{lists_format, polygon_format, unless_none, vertex_format};
 
@@ -43,7 +44,7 @@ pub fn take_vertices(
     count: u32,
     at: u64,
 ) -> Result<Capped<Vertex, VERTICES>, Unpacked>
-    requires { count ≤ 6144 }
+    requires { count ≤ most_vertices }
     ensures reads { GivesIn (λ c. c) result from.new (read_list (read_format vertex_format at) count from.old) }
     ensures long { IfOk result (λ c. length c ≡ count) }
     ensures colours { IfOk result (λ c. HaveColours c) }
@@ -64,7 +65,7 @@ pub fn take_polygons(
     count: u32,
     at: u64,
 ) -> Result<Capped<Polygon, POLYGONS>, Unpacked>
-    requires { count ≤ 2048 }
+    requires { count ≤ most_polygons }
     ensures reads { GivesIn (λ c. c) result from.new (read_list (read_format polygon_format at) count from.old) }
     ensures long { IfOk result (λ c. length c ≡ count) }
     ensures palettes { IfOk result (λ c. HavePalettes c) }
@@ -125,8 +126,8 @@ impl Lists {
         let tick = from.take_u64()?;
         holds(tick <= at, offset)?;
         let parameter = take_unless_none(from, tick, u32::MAX)?;
-        let vertex_count = take_unless_none(from, tick, 6144)?;
-        let polygon_count = take_unless_none(from, tick, 2048)?;
+        let vertex_count = take_unless_none(from, tick, VERTICES as u32)?;
+        let polygon_count = take_unless_none(from, tick, POLYGONS as u32)?;
         let vertices = take_vertices(alloc, from, vertex_count, at)?;
         let polygons = take_polygons(alloc, from, polygon_count, at)?;
         Ok(Lists {

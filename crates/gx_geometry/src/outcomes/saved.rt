@@ -5,6 +5,7 @@ ghost use Rattle.ds_state.specs.Formats.{bytes_written, number_code};
 ghost use Rattle.ds_state.specs.Reading.{GivesRead, read_code, read_format, ruled};
 ghost use Rattle.gx_geometry.specs.Bounds.{is_place, is_told};
 ghost use Rattle.gx_geometry.specs.BoundLaws.{AreLimited, ArePlaces};
+ghost use Rattle.gx_geometry.specs.Polygons.{most_polygons, most_vertices};
 ghost use Rattle.gx_geometry.specs.Saved.{holds_recent, place_number, place_of_number};
 ghost use Rattle.gx_geometry.specs.SavedKept.{results_format, results_seen};
 
@@ -96,7 +97,7 @@ fn is_place(long: u32, place: Option<u16>) -> bool
 pub fn take_length(from: &mut Unpacker, recent: [Option<u16>; 3]) -> Result<u32, Unpacked>
     ensures reads { GivesRead (λ n. n) result from.new
         (ruled (holds_recent recent 0) from.old (read_code (number_code 4) from.old)) }
-    ensures most { IfOk result (λ n. n ≤ 6144) }
+    ensures most { IfOk result (λ n. n ≤ most_vertices) }
     ensures places { IfOk result (λ n. ArePlaces n recent) }
 {
     let offset = from.place();
@@ -104,7 +105,7 @@ pub fn take_length(from: &mut Unpacker, recent: [Option<u16>; 3]) -> Result<u32,
     let places = is_place(long, recent[0])
         && is_place(long, recent[1])
         && is_place(long, recent[2]);
-    holds(long <= 6144 && places, offset)?;
+    holds(long <= VERTICES as u32 && places, offset)?;
     Ok(long)
 }
 
@@ -152,7 +153,7 @@ impl Outcome {
     /// The vertices of the open list.
     pub fn vertices(&self) -> &[Vertex]
         ensures value { result.now ≡ self.now.vertices }
-        ensures within { length self.now.vertices ≤ 6144 }
+        ensures within { length self.now.vertices ≤ most_vertices }
     {
         self.vertices.as_slice()
     }
@@ -160,7 +161,7 @@ impl Outcome {
     /// The polygons of the open list.
     pub fn polygons(&self) -> &[Polygon]
         ensures value { result.now ≡ self.now.polygons }
-        ensures within { length self.now.polygons ≤ 2048 }
+        ensures within { length self.now.polygons ≤ most_polygons }
     {
         self.polygons.as_slice()
     }

@@ -14,7 +14,7 @@ use std::alloc::{AllocError, Global};
 use std::marker::Model;
 
 /// How many entries there is room for: the 260 that don't stall ARM9, and the 64 that one instruction adds at most.
-const ENTRIES: usize = 324;
+pub const ENTRIES: u16 = 324;
 
 /// A command, or one parameter of it, that waits.
 #[derive(Clone, Copy)]
@@ -35,15 +35,15 @@ pub struct Entries {
 
 impl Model for Entries {
     ghost use Rattle.std.specs.Prelude.{List, ◌≡◌, ◌≤◌, length, count_by};
-    ghost use Rattle.gx_fifo.specs.Entries.{is_test_entry, is_stack_entry};
+    ghost use Rattle.gx_fifo.specs.Entries.{is_test_entry, is_stack_entry, most_entries};
     ghost use Rattle.gx_fifo.specs.declared.entries.GxEntry.{GxEntry};
 
     ghost Value = { List GxEntry };
 
     ghost view = { λ e. e.ring.items };
 
-    ghost invariant = { λ e. (e.ring.capacity ≡ 324) × (length e.ring.items ≤ 324) × (e.tests ≡ count_by is_test_entry e.ring.items)
-        × (e.stacks ≡ count_by is_stack_entry e.ring.items) };
+    ghost invariant = { λ e. (e.ring.capacity ≡ most_entries) × (length e.ring.items ≤ most_entries)
+        × (e.tests ≡ count_by is_test_entry e.ring.items) × (e.stacks ≡ count_by is_stack_entry e.ring.items) };
 }
 
 /// Whether a command is a test.
@@ -86,7 +86,7 @@ impl Entries {
     pub fn new(alloc: Global) -> Result<Entries, AllocError>
         ensures { IfOk result (λ e. e ≡ []) }
     {
-        let ring = HeapCircularBuffer::with_capacity(alloc, ENTRIES)?;
+        let ring = HeapCircularBuffer::with_capacity(alloc, ENTRIES as usize)?;
         Ok(Entries {
             ring,
             tests: 0,
@@ -97,7 +97,7 @@ impl Entries {
     /// How many wait.
     pub fn count(&self) -> u32
         ensures value { result ≡ length self.now }
-        ensures within { result ≤ 324 }
+        ensures within { result ≤ most_entries }
     {
         self.ring.len() as u32
     }

@@ -1,12 +1,12 @@
 //! The geometry engine's calls.
 
-ghost use Rattle.std.specs.Prelude.{◌≡◌, ◌<◌, ◌≤◌, ◌+◌, ◌^◌, ℕ, true, is_some, length, Some, None, IsSome, IfOk};
+ghost use Rattle.std.specs.Prelude.{◌≡◌, ◌<◌, ◌≤◌, ◌+◌, ◌-◌, ◌^◌, ℕ, true, is_some, length, Some, None, IsSome, IfOk};
 ghost use Rattle.ds_base.specs.Bits.{bit, flag};
 ghost use Rattle.ds_base.specs.Schedules.{IsEarly, IsLater, Reschedules};
 ghost use Rattle.ds_base.specs.declared.ticks.Tick.{Tick};
 ghost use Rattle.gx_matrix.specs.CommandTable.{command_of};
 ghost use Rattle.gx_geometry.specs.States.{AreListsSince};
-ghost use Rattle.gx_fifo.specs.Entries.{begun, done_after, complete_command, asks_for_swap};
+ghost use Rattle.gx_fifo.specs.Entries.{begun, done_after, complete_command, asks_for_swap, most_entries};
 ghost use Rattle.gx_fifo.specs.PackedWords.{word_taken, entry_added};
 ghost use Rattle.gx_fifo.specs.GxStates.{AddsOneVertex, IsGx, gx_at_boot, waiting_entries, shown_of, stalls_by, half_empty_by, level_by, shown_count, is_stalled, is_half_empty, gx_level, gx_status, display_control, read_port, gx_word, gx_kept, kept_port, gx_written, gx_finished, gx_swapped, disp3dcnt_written, gxstat_written, entries_came, engine_word, word_in, half_in};
 ghost use Rattle.std.specs.Option.{option_or};
@@ -187,7 +187,7 @@ impl Gx {
     /// How many entries wait.
     pub fn waiting(&self) -> u32
         ensures value { result ≡ waiting_entries self.now }
-        ensures within { result ≤ 324 }
+        ensures within { result ≤ most_entries }
     {
         self.fifo.entries().count()
     }
@@ -324,7 +324,7 @@ impl Gx {
 
     /// A packed word or a parameter is written.
     fn write_word(&mut self, word: u32, now: Tick)
-        requires room { length self.old.fifo.entries ≤ 320 }
+        requires room { length self.old.fifo.entries ≤ most_entries - 4 }
         requires early { IsEarly (Some now) }
         ensures state { self.new ≡ entries_came now (word_taken word self.old.fifo) self.old }
         ensures grows { length self.new.fifo.entries ≤ length self.old.fifo.entries + 4 }
@@ -336,7 +336,7 @@ impl Gx {
 
     /// A word is written to the port of a code.
     fn write_entry(&mut self, code: u8, word: u32, now: Tick)
-        requires room { length self.old.fifo.entries ≤ 320 }
+        requires room { length self.old.fifo.entries ≤ most_entries - 4 }
         requires early { IsEarly (Some now) }
         ensures state { self.new ≡ entries_came now (entry_added (command_of code) word self.old.fifo) self.old }
         ensures schedule { Reschedules now self.old.due self.new.due }
@@ -348,7 +348,7 @@ impl Gx {
     /// A word is written at a tick to a port, by its offset from 4000000h, a multiple of 4. It adds four entries at most.
     #[tactic(auto, unfolding(crate::specs::GxStates::write_port))]
     pub fn port_write(&mut self, at: u32, value: u32, now: Tick)
-        requires room { length self.old.fifo.entries ≤ 320 }
+        requires room { length self.old.fifo.entries ≤ most_entries - 4 }
         requires early { IsEarly (Some now) }
         ensures state { self.new ≡ gx_written self.old at value now }
         ensures grows { length self.new.fifo.entries ≤ length self.old.fifo.entries + 4 }

@@ -26,13 +26,15 @@ pub struct Fifo {
 
 impl Model for Fifo {
     ghost use Rattle.std.specs.Prelude.{◌≡◌, ◌<◌, ◌≤◌, ◌^◌, true, length};
+    ghost use Rattle.gx_fifo.specs.Entries.{most_entries};
     ghost use Rattle.gx_fifo.specs.PackedWords.{FifoState, is_given};
 
     ghost Value = { FifoState };
 
     ghost view = { λ f. record { entries = f.entries; packed = f.packed; given = f.given } };
 
-    ghost invariant = { λ f. (f.packed < 2 ^ 32) × (f.given < 32) × (is_given f.packed f.given ≡ true) × (length f.entries ≤ 324) };
+    ghost invariant = { λ f. (f.packed < 2 ^ 32) × (f.given < 32) × (is_given f.packed f.given ≡ true)
+        × (length f.entries ≤ most_entries) };
 }
 
 /// The command of the first byte.

@@ -5,6 +5,7 @@ ghost use Rattle.std.specs.List.{AllByRecursion};
 ghost use Rattle.ds_state.specs.Formats.{bytes_written, number_code, written_each};
 ghost use Rattle.ds_state.specs.Reading.{GivesIn, GivesRead, read_code, read_format, read_list, ruled};
 ghost use Rattle.gx_matrix.specs.CommandTable.{command_row};
+ghost use Rattle.gx_fifo.specs.Entries.{most_entries};
 ghost use Rattle.gx_fifo.specs.Saved.{entry_format, has_command};
 
 use crate::entries::{Entries, GxEntry};
@@ -74,7 +75,7 @@ pub fn take_entries(
     count: u16,
     at: u64,
 ) -> Result<Entries, Unpacked>
-    requires { count ≤ 324 }
+    requires { count ≤ most_entries }
     ensures reads { GivesIn (λ e. e) result from.new (read_list (read_format entry_format at) count from.old) }
     ensures long { IfOk result (λ e. length e ≡ count) }
 {

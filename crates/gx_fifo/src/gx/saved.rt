@@ -7,7 +7,7 @@ ghost use Rattle.ds_state.specs.Reading.{GivesIn, GivesRead, read_code, read_for
 ghost use Rattle.gx_fifo.specs.Entries.{complete_command, most_entries};
 ghost use Rattle.gx_fifo.specs.Saved.{GxIsSaved, HasGxBounds, asks_nothing, count_by, gx_format, gx_format_by, holds_by, may_wait};
 
-use crate::entries::take_entries;
+use crate::entries::{ENTRIES, take_entries};
 use crate::gx::{Gx, half_empty_by, level_by, stalls_by};
 use crate::packed::{Fifo, take_left};
 use ds_base::{Tick, known};
@@ -91,13 +91,13 @@ fn take_waiting(
     Ok(waits)
 }
 
-/// Takes how many entries wait: at most 324, and so many as what is asked holds with.
+/// Takes how many entries wait: at most as many as there is room for, and so many as what is asked holds with.
 fn take_count(from: &mut Unpacker, asked: Asked, selector: u8) -> Result<u16, Unpacked>
     ensures reads { GivesRead (λ n. n) result from.new (ruled (count_by (holds_by asked) selector 0) from.old (read_code (number_code 2) from.old)) }
     ensures most { IfOk result (λ n. n ≤ most_entries) }
 {
     let offset = from.place();
-    let count = from.take_half_at_most(324)?;
+    let count = from.take_half_at_most(ENTRIES)?;
     holds(asked.holds(selector as u32, count as u32), offset)?;
     Ok(count)
 }

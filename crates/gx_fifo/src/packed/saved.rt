@@ -3,6 +3,7 @@
 ghost use Rattle.std.specs.Prelude.{◌≡◌, ◌≤◌, ◌-◌, true, length, IfOk};
 ghost use Rattle.ds_state.specs.Formats.{number_code};
 ghost use Rattle.ds_state.specs.Reading.{GivesRead, read_code, ruled};
+ghost use Rattle.gx_fifo.specs.Entries.{most_entries};
 ghost use Rattle.gx_fifo.specs.PackedWords.{first_parameters};
 ghost use Rattle.gx_fifo.specs.Saved.{are_left, parameters_left};
 
@@ -28,7 +29,7 @@ impl Fifo {
     /// These entries, and what is left of a packed word, whose first command has so many parameters left.
     #[tactic(auto, using(crate::proofs::SavedLaws::left_given, crate::proofs::SavedLaws::left_below, crate::proofs::SavedLaws::left_within))]
     pub fn of(entries: Entries, packed: u32, left: u8) -> Fifo
-        requires few { length entries ≤ 324 }
+        requires few { length entries ≤ most_entries }
         requires left { are_left packed 0 left ≡ true }
         ensures { result ≡ record { entries = entries; packed = packed; given = first_parameters packed - left } }
     {

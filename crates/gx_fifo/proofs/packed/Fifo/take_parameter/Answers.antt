@@ -1,6 +1,7 @@
 use Rattle.std.proofs.Common.{◌≡◌, ◌+◌, ◌/◌, ◌≤◌, ◌^◌, ◌∷◌, ◌++◌, [], Some, nat_le, false, length, ap, ◌∙◌, arith}
 use Rattle.std.proofs.lemmas.List.{length-append}
 use Rattle.gx_matrix.specs.CommandTable.{command_row}
+use Rattle.gx_fifo.specs.Entries.{most_entries}
 use Rattle.gx_fifo.specs.PackedWords.{FifoState, first_command, packed_commands, with_word}
 use Rattle.gx_fifo.proofs.Growing.{still_given}
 use Rattle.gx_fifo.proofs.Unpacks.{room_behind}
@@ -16,10 +17,10 @@ pub take_packed-requires : goal.take_packed-requires
 take_packed-requires c =
     let room = ap (λ (s : FifoState). length s.entries) c.self.view_is in
     let long = length-append c.self.inside.entries (with_word c.args.command c.args.word ∷ []) in
-    let few : length c.self.inside.entries + 4 ≤ 324 = omega (arith, room, c.requires.room) in
-    let behind = room_behind c.take_packed.inside.packed (length c.self.inside.entries) 324 c.take_packed.invariant.0 few in
+    let few : length c.self.inside.entries + 4 ≤ most_entries = omega (arith, room, c.requires.room) in
+    let behind = room_behind c.take_packed.inside.packed (length c.self.inside.entries) most_entries c.take_packed.invariant.0 few in
     let all : length (c.self.inside.entries ++ with_word c.args.command c.args.word ∷ [])
-    + length (packed_commands (c.take_packed.inside.packed / 2 ^ 8)) ≤ 324 =
+    + length (packed_commands (c.take_packed.inside.packed / 2 ^ 8)) ≤ most_entries =
     omega (arith, long, behind) in
     record { room = rw c.add.ensures all }
 

@@ -3,14 +3,15 @@ use Rattle.video2d.proofs.Words.{slice_index, Ok, bit_and, refl, sym, ◌∙◌,
 use Rattle.video2d.proofs.Words.{kept_twice, IsExact, Keeps, StandsFor, made, Left, read_format, display_row, EngineState, PointState, IsColour}
 use Rattle.video2d.proofs.Words.{IsDispstat, IsEngine, IsFrame, IsPoint, pixel_format, ScanState, scan_before, StatusState, VideoState, Dispstat}
 use Rattle.video2d.proofs.Words.{Engine, A, B}
-use Rattle.std.proofs.Common.{rules, not}
+use Rattle.std.proofs.Common.{rules}
+use Rattle.std.specs.Cmp.{booleans_Decides}
 use Rattle.std.specs.Int.Bits.{and_mask}
 use Rattle.ds_state.proofs.Exact.{one_spelling, reads_exactly, round_trips}
 use Rattle.ds_state.proofs.Masks.{kept_top}
 use Rattle.video2d.proofs.SavedKept.{ports_kept}
 use Rattle.video2d.proofs.SavedPorts.{ArePorts, ports_exact, ports_stand}
 use Rattle.video2d.proofs.SavedScans.{line_small, scans_follow}
-use Rattle.video2d.specs.Saved.{IsSavedVideo, VideoIsSaved, frame_format, frame_pixels, is_line_of, is_phase_of, point_format, status_bits, status_of_bits, video_format}
+use Rattle.video2d.specs.Saved.{IsSavedVideo, VideoIsSaved, frame_format, frame_pixels, point_format, status_bits, status_of_bits, video_format}
 use Rattle.video2d.specs.Statuses.{status_word}
 
 -- What the display owes of its format.
@@ -118,16 +119,6 @@ frame_stands at pixels is = ((so_many pixels is.long, pixels_stand at pixels is.
 
 -- ---- the whole
 
-line_again : (at line : ℕ) → is_line_of at line ≡ true → (scan_before at).line ≡ line
-line_again at line rule = sym (equal line _ rule)
-
-phase_again : (at : ℕ) (blanked : Bool) → is_phase_of at blanked ≡ true → (scan_before at).blanked ≡ blanked
-phase_again at true rule = rule
-phase_again at false rule = by_phase (scan_before at).blanked rule where
-  by_phase : (b : Bool) → not b ≡ true → b ≡ false
-  by_phase false h = refl
-  by_phase true h = sym h
-
 pub video_exact : (at : ℕ) → IsExact (video_format at) at
 unfolding video_format
 video_exact at = λ line _ is_line blanked _ is_phase nine _ is_nine seven _ is_seven. (
@@ -147,8 +138,8 @@ video_exact at = λ line _ is_line blanked _ is_phase nine _ is_nine seven _ is_
               λ drawn _. (
                 frame_exact at,
                 λ whole _.
-                    let a = line_again at line is_line in
-                    let b = phase_again at blanked is_phase in
+                    let a : (scan_before at).line ≡ line = sym (equal line _ is_line) in
+                    let b : (scan_before at).blanked ≡ blanked = sym ((booleans_Decides blanked (scan_before at).blanked).0 is_phase) in
                     let c = status_again nine is_nine in
                     let d = status_again seven is_seven in
                     search rules,
@@ -161,10 +152,6 @@ video_exact at = λ line _ is_line blanked _ is_phase nine _ is_nine seven _ is_
   ),
 )
 
-phase_holds : (at : ℕ) (blanked : Bool) → blanked ≡ (scan_before at).blanked → is_phase_of at blanked ≡ true
-phase_holds at true e = sym e
-phase_holds at false e = rw (← e) refl
-
 ports_are : (which : Engine) (e : EngineState) → IsEngine which e → ArePorts which e.ports
 ports_are which e is = record { long = is.long; kept = is.kept }
 
@@ -173,10 +160,10 @@ unfolding video_format
 video_stands at v saved =
     let is = saved.is in
     let scan = saved.scan in
-    let line : is_line_of at v.scan.line ≡ true = is_equal _ _ (ap (λ (s : ScanState). s.line) scan) in
+    let line : (v.scan.line == (scan_before at).line) ≡ true = is_equal _ _ (ap (λ (s : ScanState). s.line) scan) in
     let le = is.line in
     let small : v.scan.line < 256 ^ 2 = omega (arith, le) in
-    let phase = phase_holds at v.scan.blanked (ap (λ (s : ScanState). s.blanked) scan) in
+    let phase = (booleans_Decides v.scan.blanked (scan_before at).blanked).1 (ap (λ (s : ScanState). s.blanked) scan) in
     let nine = status_stands v.nine is.nine in
     let seven = status_stands v.seven is.seven in
     let nine_fits = nine.fits in let nine_rule = nine.rule in let seven_fits = seven.fits in let seven_rule = seven.rule in

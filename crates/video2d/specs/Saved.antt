@@ -1,4 +1,5 @@
-use Rattle.std.specs.Prelude.{ℕ, zero, suc, ◌≡◌, ◌≤◌, ◌<◌, ◌+◌, ◌==◌, not, Bool, if◌then◌else◌, List, [], ◌∷◌, Ok, bit_and, slice_index}
+use Rattle.std.specs.Prelude.{ℕ, zero, suc, ◌≡◌, ◌≤◌, ◌<◌, ◌+◌, ◌==◌, if◌then◌else◌, List, [], ◌∷◌, Ok, bit_and, slice_index}
+use Rattle.std.specs.Bool.{beq}
 use Rattle.ds_base.specs.Bits.{bit}
 use Rattle.ds_base.specs.Numbers.{number_at, width_bytes, with_number, zeroes}
 use Rattle.ds_base.specs.declared.memories.Width.{Width}
@@ -20,13 +21,6 @@ use Rattle.video2d.specs.declared.engines.Engine.TheVariants.{A, B}
 
 -- The display in bytes (our choice of form): where it is, each processor's DISPSTAT, both engines' registers, POWCNT1, the running points, the frame
 -- being drawn, and the last whole one.
-
--- line and phase are those that the events due below the tick leave
-abbrev pub is_line_of : ℕ → ℕ → Bool
-is_line_of at line = line == (scan_before at).line
-
-abbrev pub is_phase_of : ℕ → Bool → Bool
-is_phase_of at blanked = if blanked then (scan_before at).blanked else not (scan_before at).blanked
 
 -- DISPSTAT's bits: those that are kept, and the flags, which aren't held against line and phase
 abbrev pub status_of_bits : ℕ → StatusState
@@ -82,12 +76,12 @@ frame_pixels = 98304
 unfoldable pub frame_format : Format (List ℕ) (List ℕ)
 frame_format = each frame_pixels pixel_format (λ pixels. pixels)
 
--- ---- the whole
+-- ---- the whole: line and phase are those that the events due below the tick leave
 
 unfoldable pub video_format : ℕ → Format VideoState VideoState
 video_format at = do
-  line ← one_field (number_code 2) (λ v. v.scan.line) is_line_of
-  blanked ← one_field flag_code (λ v. v.scan.blanked) is_phase_of
+  line ← one_field (number_code 2) (λ v. v.scan.line) (λ tick line. line == (scan_before tick).line)
+  blanked ← one_field flag_code (λ v. v.scan.blanked) (λ tick blanked. beq blanked (scan_before tick).blanked)
   nine ← one_field (number_code 2) (λ v. status_word v.nine) (keeps_mask status_bits)
   seven ← one_field (number_code 2) (λ v. status_word v.seven) (keeps_mask status_bits)
   ports_of_a ← its (ports_format A) (λ v. v.a.ports)

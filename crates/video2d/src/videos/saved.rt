@@ -1,6 +1,6 @@
 //! The display in bytes.
 
-ghost use Rattle.std.specs.Prelude.{◌≡◌, ℕ, Some, OnOk, if◌then◌else◌, not};
+ghost use Rattle.std.specs.Prelude.{◌≡◌, ℕ, Some, OnOk};
 ghost use Rattle.ds_base.specs.Schedules.{IsEarly};
 ghost use Rattle.ds_state.specs.Formats.{bytes_written};
 ghost use Rattle.ds_state.specs.Reading.{GivesIn, read_format};
@@ -54,7 +54,7 @@ impl Video {
         holds(line == scan.line(), offset)?;
         let offset = from.place();
         let blanked = from.take_flag()?;
-        holds(is_phase(&scan, blanked), offset)?;
+        holds(blanked == scan.blanked(), offset)?;
         let nine = from.take_kept_half(STATUS_BITS)?;
         let seven = from.take_kept_half(STATUS_BITS)?;
         let ports_of_a = take_registers(from, at, Engine::A)?;
@@ -75,17 +75,6 @@ impl Video {
             power,
             frames: Frames::of(drawn, whole),
         })
-    }
-}
-
-/// Whether the phase is where the display is.
-fn is_phase(scan: &Scan, blanked: bool) -> bool
-    ensures { result ≡ (if blanked then scan.now.blanked else not scan.now.blanked) }
-{
-    if blanked {
-        scan.blanked()
-    } else {
-        !scan.blanked()
     }
 }
 

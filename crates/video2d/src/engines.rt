@@ -1,7 +1,7 @@
 //! The two 2D engines, and their registers.
 
 ghost use Rattle.std.specs.Prelude.{◌≡◌, ◌<◌, ◌≤◌, slice_index, slice_set};
-ghost use Rattle.video2d.specs.DisplayRegisters.{engine_base};
+ghost use Rattle.video2d.specs.DisplayRegisters.{engine_base, engine_bytes};
 ghost use Rattle.video2d.specs.Engines.{engine_at_boot, dispcnt, bgcnt, bghofs, bgvofs, bldcnt, bldalpha, bldy, dispcapcnt, master_bright, background_mosaic, object_mosaic, points_started, points_stepped, points_after, point_of, engine_byte, engine_byte_written, engine_number, text_layer_of, affine_layer_of, ext_layer_of};
 
 use crate::display_registers::{DisplayRegister, engine_row_at};
@@ -164,7 +164,7 @@ impl EngineRegisters {
 
     /// A byte of the windows' registers.
     pub fn window_byte(&self, at: usize) -> u8
-        requires { at < 112 }
+        requires { at < engine_bytes }
         ensures { result ≡ slice_index self.now.ports at }
     {
         self.ports[at]
@@ -172,7 +172,7 @@ impl EngineRegisters {
 
     /// The byte at an offset, as it is read.
     pub fn byte(&self, which: Engine, at: u32) -> u8
-        requires { at < 112 }
+        requires { at < engine_bytes }
         ensures { result ≡ engine_byte which self.now at }
     {
         match engine_row_at(which, at) {
@@ -189,7 +189,7 @@ impl EngineRegisters {
 
     /// The byte that is kept at an offset.
     pub fn kept(&self, at: u32) -> u8
-        requires { at < 112 }
+        requires { at < engine_bytes }
         ensures { result ≡ slice_index self.now.ports at }
     {
         self.ports[at as usize]
@@ -204,7 +204,7 @@ impl EngineRegisters {
 
     /// A byte is written at an offset.
     pub fn write_byte(&mut self, which: Engine, at: u32, value: u8)
-        requires { at < 112 }
+        requires { at < engine_bytes }
         ensures { self.new ≡ engine_byte_written which self.old at value }
     {
         match engine_row_at(which, at) {

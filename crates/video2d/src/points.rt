@@ -3,6 +3,7 @@
 ghost use Rattle.std.specs.Prelude.{◌≡◌, ◌<◌, ◌≤◌, ◌+◌, ◌*◌};
 ghost use Rattle.ds_base.specs.Numbers.{is_within, number_at};
 ghost use Rattle.ds_base.specs.declared.memories.Width.TheVariants.{Half, Word};
+ghost use Rattle.video2d.specs.DisplayRegisters.{engine_bytes};
 ghost use Rattle.video2d.specs.Engines.{word_of_half, word_of_28, coordinate_at, point_at_boot, point_started, point_written, coordinate_stepped, point_stepped};
 
 use std::marker::Model;
@@ -10,7 +11,7 @@ use std::marker::Model;
 mod saved;
 
 /// How many bytes an engine's ports have.
-pub const PORTS: usize = 112;
+pub const PORTS: usize = 0x70;
 
 /// The point at the left end of a line: each coordinate is a signed word with 8 fractional bits, as an unsigned number.
 #[derive(Drop)]
@@ -29,7 +30,7 @@ impl Model for Point {
 
 /// The half at an offset.
 pub fn half_at(ports: &[u8; PORTS], at: usize) -> u16
-    requires { at < 111 }
+    requires { at + 2 ≤ engine_bytes }
     ensures { result ≡ number_at Half ports.now at }
 {
     u16::from_le_bytes([ports[at], ports[at + 1]])
@@ -37,7 +38,7 @@ pub fn half_at(ports: &[u8; PORTS], at: usize) -> u16
 
 /// The word at an offset.
 pub fn word_at(ports: &[u8; PORTS], at: usize) -> u32
-    requires { at < 109 }
+    requires { at + 4 ≤ engine_bytes }
     ensures { result ≡ number_at Word ports.now at }
 {
     u32::from_le_bytes([ports[at], ports[at + 1], ports[at + 2], ports[at + 3]])
@@ -65,14 +66,14 @@ fn word_of_28(number: u32) -> u32
 }
 
 fn coordinate_at(ports: &[u8; PORTS], at: usize) -> u32
-    requires { at < 109 }
+    requires { at + 4 ≤ engine_bytes }
     ensures { result ≡ coordinate_at ports.now at }
 {
     word_of_28(word_at(ports, at))
 }
 
 fn is_within(first: usize, bytes: usize, at: usize) -> bool
-    requires known { first < 112 }
+    requires known { first < engine_bytes }
     requires few { bytes ≤ 4 }
     ensures { result ≡ is_within first bytes at }
 {

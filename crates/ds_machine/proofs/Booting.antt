@@ -2,7 +2,7 @@ use Rattle.ds_machine.proofs.Words.{ℕ, ◌≡◌, ◌≤◌, ◌+◌, inl, inr
 use Rattle.ds_machine.proofs.Words.{Byte, Proc, Nine, Seven, Tick, image_of, image_place, Tick, IoState, io_at_boot, io_of, is_settled, shares_bit}
 use Rattle.ds_machine.proofs.Words.{numbers_at_boot, header_bytes, header_place, machine_blank, with_header, with_image, copied, stored, AreAsleep}
 use Rattle.ds_machine.proofs.Words.{HasSoundParts, IsSound, IsRunning, run_of, MachineState, ProcessorState, counts_of, with_file, map_of}
-use Rattle.ds_machine.proofs.Words.{processor_of}
+use Rattle.ds_machine.proofs.Words.{processor_of, if_false, nat_lt, script_from}
 use Rattle.ds_header.specs.Rules.{ImageLies}
 use Rattle.ds_machine.specs.Booted.{machine_booted}
 use Rattle.ds_machine.proofs.RamAccesses.{ram_write_io}
@@ -14,12 +14,12 @@ abbrev start : Tick
 start = record { 0 = 0 }
 
 -- the key script, the processors' numbers, the count of events and the file stay
-record Stays (s next : MachineState) : Type 0 where
-  keys : next.keys ≡ s.keys
-  events : next.events ≡ s.events
-  file : next.file ≡ s.file
-  nine : next.nine.processor ≡ s.nine.processor
-  seven : next.seven.processor ≡ s.seven.processor
+pub record Stays (s next : MachineState) : Type 0 where
+  pub keys : next.keys ≡ s.keys
+  pub events : next.events ≡ s.events
+  pub file : next.file ≡ s.file
+  pub nine : next.nine.processor ≡ s.nine.processor
+  pub seven : next.seven.processor ≡ s.seven.processor
 
 then_stays : (a b c : MachineState) → Stays a b → Stays b c → Stays a c
 then_stays a b c one two = record {
@@ -50,7 +50,7 @@ booted_put file keys s blank =
     ∙ ap (λ (m : MachineState). with_image Seven m file) (sym (copied_put file Nine s (image_place file Nine) (image_of file Nine))
     ∙ ap (λ (m : MachineState). with_image Nine m file) blank))
 
-booted_stays : (file : List ℕ) (keys : List KeyLine) → Stays (machine_blank file keys) (machine_booted file keys)
+pub booted_stays : (file : List ℕ) (keys : List KeyLine) → Stays (machine_blank file keys) (machine_booted file keys)
 booted_stays file keys =
     let blank = machine_blank file keys in
     let nine = with_image Nine blank file in
@@ -67,6 +67,11 @@ copied_io proc s at [] low high = refl
 copied_io proc s at (byte ∷ rest) low high =
     copied_io proc (stored proc s at byte) (at + 1) rest (omega (arith, low)) (omega (arith, high))
     ∙ ram_write_io proc start (map_of proc s) at Byte byte low (omega (arith, high))
+
+-- the lines from the start on are all
+pub from_start : (lines : List KeyLine) → script_from 0 lines ≡ lines
+from_start [] = refl
+from_start (line ∷ lines) = if_false (nat_lt line.tick.0 0) (script_from 0 lines) (line ∷ lines) (grind arith)
 
 -- where an accepted image lies
 pub image_lies : (proc : Proc) (at count : ℕ) → ImageLies proc at count → (0x02000000 ≤ at) × (at + count ≤ 0x04000000)

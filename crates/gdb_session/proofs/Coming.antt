@@ -1,18 +1,11 @@
-use Rattle.std.proofs.Common.{ℕ, ◌≡◌, ◌+◌, ◌⊎◌, nat_lt, inl, inr, Bool, true, false, List, [], ◌∷◌, take, Option, Some, None, is_some, refl, sym, ◌∙◌, ap, arith}
+use Rattle.std.proofs.Common.{ℕ, ◌≡◌, ◌⊎◌, inl, inr, Bool, true, false, List, [], Option, Some, None, is_some, refl, sym, ◌∙◌, ap}
 use Rattle.ds_base.specs.declared.left_out.LeftOut.{LeftOut}
 use Rattle.ds_base.specs.declared.processors.Proc.{Proc}
-use Rattle.ds_base.specs.declared.keys.KeyLine.{KeyLine}
-use Rattle.ds_base.specs.declared.processors.Proc.TheVariants.{Nine, Seven}
-use Rattle.ds_header.specs.Fields.{image_of, image_place}
-use Rattle.ds_base.proofs.Choices.{if_false}
 use Rattle.ds_runs.specs.Runs.{MachineStep, Makes, Stops}
-use Rattle.ds_machine.specs.Booted.{header_bytes, header_place, machine_blank, machine_booted, with_image}
-use Rattle.ds_machine.specs.Boots.{copied, stored}
 use Rattle.ds_machine.specs.Hearing.{geometry_rank}
 use Rattle.ds_machine.specs.Lagging.{CatchesUpIf, TakesGeometry, more_geometry, no_geometry, observes_by}
 use Rattle.ds_machine.specs.Private.{rank_of}
 use Rattle.ds_machine.specs.Reference.{Shown, reference_step}
-use Rattle.ds_machine.specs.Saved.{script_from}
 use Rattle.ds_machine.specs.States.{MachineState}
 use Rattle.ds_machine.specs.Statuses.{left_by}
 use Rattle.ds_machine.specs.Steps.{processor_of}
@@ -110,33 +103,3 @@ comes_on first middle last outs more came (one_turn_on start before now front un
 pub ran_on : (until : ℕ) (first middle last : ConsoleState) (answer : Turned) → ComesFrom first middle → TurnsUpTo until middle answer last → ComesFrom first last
 ran_on until first middle last answer came up =
     let e = ran_comes until middle last answer up in comes_on first middle last came.0 e.0 came.1 e.1
-
--- ---- the boot
-
-copied_file : (proc : Proc) (s : MachineState) (at : ℕ) (bytes : List ℕ) → (copied proc s at bytes).file ≡ s.file
-copied_file proc s at [] = refl
-copied_file proc s at (byte ∷ rest) = copied_file proc (stored proc s at byte) (at + 1) rest
-
-copied_keys : (proc : Proc) (s : MachineState) (at : ℕ) (bytes : List ℕ) → (copied proc s at bytes).keys ≡ s.keys
-copied_keys proc s at [] = refl
-copied_keys proc s at (byte ∷ rest) = copied_keys proc (stored proc s at byte) (at + 1) rest
-
-module _ (file : List ℕ) (lines : List KeyLine) where
-  abbrev with_nine : MachineState
-  with_nine = with_image Nine (machine_blank file lines) file
-
-  pub booted_file : (machine_booted file lines).file ≡ file
-  booted_file =
-      copied_file Nine (with_image Seven with_nine file) header_place (take header_bytes file)
-      ∙ copied_file Seven with_nine (image_place file Seven) (image_of file Seven)
-      ∙ copied_file Nine (machine_blank file lines) (image_place file Nine) (image_of file Nine)
-
-  pub booted_keys : (machine_booted file lines).keys ≡ lines
-  booted_keys =
-      copied_keys Nine (with_image Seven with_nine file) header_place (take header_bytes file)
-      ∙ copied_keys Seven with_nine (image_place file Seven) (image_of file Seven)
-      ∙ copied_keys Nine (machine_blank file lines) (image_place file Nine) (image_of file Nine)
-
-pub from_start : (lines : List KeyLine) → script_from 0 lines ≡ lines
-from_start [] = refl
-from_start (line ∷ lines) = if_false (nat_lt line.tick.0 0) (script_from 0 lines) (line ∷ lines) (grind arith)

@@ -12,12 +12,13 @@ use Rattle.ds_machine.specs.Saved.{script_from}
 use Rattle.ds_machine.specs.Sound.{HasSoundParts, IsSound}
 use Rattle.ds_machine.specs.States.{MachineState}
 use Rattle.ds_machine.specs.WithinLaws.{IsWithinTick, RunsKeepScript, RunsStayWithinTick}
+use Rattle.ds_machine.proofs.Booting.{booted_stays, from_start}
 use Rattle.run_ahead.specs.Consoles.{ConsoleState}
 use Rattle.run_ahead.specs.Saved.{IsReadBack, read_state}
 use Rattle.run_ahead.specs.ToEndLaws.{TurnsKeepRuns}
 use Rattle.gdb_session.specs.Tapes.{ComesFrom, ComesFromBoot, IsSaveOf, IsOfOneRun, TapeState, boot_of}
 use Rattle.gdb_session.specs.declared.saves.Save.{Save}
-use Rattle.gdb_session.proofs.Coming.{booted_file, booted_keys, came_file, comes_on, from_start, stays}
+use Rattle.gdb_session.proofs.Coming.{came_file, comes_on, stays}
 
 -- A tape whose console goes on, keeps what it is, and comes back.
 
@@ -66,7 +67,7 @@ module _ (file : List ℕ) (keys script : List KeyLine) (c : ConsoleState) (same
     (is : c ≡ record { machine = machine_booted file keys; limit = 0; stopped = None; turns = 0 }) where
   pub begins_boot : machine_booted c.machine.file script ≡ machine_booted file keys
   begins_boot =
-      ap (λ (f : List ℕ). machine_booted f script) (ap (λ (k : ConsoleState). k.machine.file) is ∙ booted_file file keys)
+      ap (λ (f : List ℕ). machine_booted f script) (ap (λ (k : ConsoleState). k.machine.file) is ∙ (booted_stays file keys).file)
       ∙ ap (machine_booted file) same
 
   pub begins : (digest : List ℕ) (saves : List Save) → saves ≡ [] → IsSound c.machine → HasSoundParts c.machine → IsWithinTick 0 c.machine
@@ -119,7 +120,7 @@ module _ (runs : TurnsKeepRuns) (stay : RunsStayWithinTick) (scripts : RunsKeepS
   lines_to_come : c.machine.keys ≡ script_from c.limit keys
   lines_to_come =
       scripts 0 c.limit keys boot c.machine (h.came.0 ++ []) run h.parts (omega arith)
-      (booted_keys c.machine.file keys ∙ sym (from_start keys))
+      ((booted_stays c.machine.file keys).keys ∙ sym (from_start keys))
 
   pub is_kept : (save : Save) → save.at ≡ c.limit → (IsWithinTick c.limit c.machine → IsReadBack digest c save.bytes.items)
       → IsSaveOf c.machine.file keys digest save
@@ -137,7 +138,7 @@ module _ (keys : List KeyLine) (digest : List ℕ) (old : ConsoleState) (saves :
   kept = one_of (IsSaveOf old.machine.file keys digest) saves save h.kept there
 
   its_file : kept.console.machine.file ≡ old.machine.file
-  its_file = came_file _ kept.console kept.came.0 kept.came.1 ∙ booted_file old.machine.file keys
+  its_file = came_file _ kept.console kept.came.0 kept.came.1 ∙ (booted_stays old.machine.file keys).file
 
   reads_back : (until : ℕ) → save.at < until → read_state digest until old.machine.file keys save.bytes.items ≡ Ok kept.console
   reads_back until lt =

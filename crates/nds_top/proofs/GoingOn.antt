@@ -1,15 +1,13 @@
-use Rattle.nds_top.proofs.Words.{ℕ, ◌≡◌, ◌≢◌, ◌<◌, ◌+◌, nat_lt, List, [], take, inl, inr, Option, Some, None, Ok, option_map, refl, sym, ◌∙◌, ap}
-use Rattle.nds_top.proofs.Words.{subst, arith, IsSomeAnd, none-some, same_Some, sha256, KeyLine, Proc, Nine, Seven, image_of, image_place, Named}
-use Rattle.nds_top.proofs.Words.{file_of, At, Ending, Runs, header_bytes, header_place, machine_blank, machine_booted, with_image, Shown, reference}
+use Rattle.nds_top.proofs.Words.{ℕ, ◌≡◌, ◌≢◌, ◌<◌, ◌+◌, nat_lt, List, [], inl, inr, Option, Some, None, Ok, option_map, refl, sym, ◌∙◌, ap}
+use Rattle.nds_top.proofs.Words.{subst, arith, IsSomeAnd, none-some, same_Some, sha256, KeyLine, Named}
+use Rattle.nds_top.proofs.Words.{file_of, At, Ending, Runs, machine_booted, Shown, reference}
 use Rattle.nds_top.proofs.Words.{HasSoundParts, MachineState, ConsoleState, read_state, TurnsToEnd, Asked, AskResume, AskRun, AskSave, Asks, Keep}
 use Rattle.nds_top.proofs.Words.{AreKeys, IsCart, cartridge, script, Status, Done, NoMemory, Call, GivesBy, switched_on, latest_of, output_of}
 use Rattle.nds_top.proofs.Words.{IsState, saved_state, CommandGives, Gives, nothing, command, HadNoFault, SavedBy}
 use Rattle.std.proofs.Common.{◌∷◌}
-use Rattle.ds_base.proofs.Choices.{if_false}
 use Rattle.ds_base.specs.declared.left_out.LeftOut.{LeftOut}
 use Rattle.ds_runs.specs.Runs.{MachineStep, over, stops, more}
 use Rattle.ds_runs.specs.Runs as runs
-use Rattle.ds_machine.specs.Boots.{copied, stored}
 use Rattle.ds_machine.specs.Reference.{reference_step}
 use Rattle.ds_machine.specs.Saved.{script_from}
 use Rattle.ds_machine.specs.Statuses.{left_by}
@@ -22,41 +20,14 @@ use Rattle.nds_plays.specs.States.{ComesBack}
 use Rattle.nds_top.specs.Resumes.{HaveSameFiles, WroteTheRest}
 use Rattle.nds_top.proofs.OneAnswer.{Comes, ResumeWrites, TopLaws, WroteSo, command_told, status_at}
 use Rattle.ds_machine.proofs.AtBoot.{booted_parts}
+use Rattle.ds_machine.proofs.Booting.{booted_stays, from_start}
 use Rattle.nds_top.proofs.KeyScripts.{keys_rise}
 use Rattle.nds_top.proofs.Outcomes.{loaded_comes}
 use Rattle.nds_top.proofs.ResumeOutcomes.{state_comes}
 
 -- A run that goes on from a saved console, and the whole run.
 
--- ---- the cartridge's file and the key script, at boot and over a run
-
-copied_file : (proc : Proc) (s : MachineState) (at : ℕ) (bytes : List ℕ) → (copied proc s at bytes).file ≡ s.file
-copied_file proc s at [] = refl
-copied_file proc s at (byte ∷ rest) = copied_file proc (stored proc s at byte) (at + 1) rest
-
-copied_keys : (proc : Proc) (s : MachineState) (at : ℕ) (bytes : List ℕ) → (copied proc s at bytes).keys ≡ s.keys
-copied_keys proc s at [] = refl
-copied_keys proc s at (byte ∷ rest) = copied_keys proc (stored proc s at byte) (at + 1) rest
-
-module _ (file : List ℕ) (lines : List KeyLine) where
-  abbrev with_nine : MachineState
-  with_nine = with_image Nine (machine_blank file lines) file
-
-  booted_file : (machine_booted file lines).file ≡ file
-  booted_file =
-      copied_file Nine (with_image Seven with_nine file) header_place (take header_bytes file)
-      ∙ copied_file Seven with_nine (image_place file Seven) (image_of file Seven)
-      ∙ copied_file Nine (machine_blank file lines) (image_place file Nine) (image_of file Nine)
-
-  booted_keys : (machine_booted file lines).keys ≡ lines
-  booted_keys =
-      copied_keys Nine (with_image Seven with_nine file) header_place (take header_bytes file)
-      ∙ copied_keys Seven with_nine (image_place file Seven) (image_of file Seven)
-      ∙ copied_keys Nine (machine_blank file lines) (image_place file Nine) (image_of file Nine)
-
-from_start : (lines : List KeyLine) → script_from 0 lines ≡ lines
-from_start [] = refl
-from_start (line ∷ lines) = if_false (nat_lt line.tick.0 0) (script_from 0 lines) (line ∷ lines) (grind arith)
+-- ---- the cartridge's file over a run
 
 abbrev EndsWithFile : List ℕ → Ending MachineState LeftOut → Type 0
 EndsWithFile file (At s) = s.file ≡ file
@@ -122,7 +93,7 @@ saved_by c files cart keys first named told (inl h) =
       outs = w.0.0;
       ran = w.0.1;
       limit = w.1;
-      parts = booted_parts h.0 h.1 is_cart.accepted (keys_rise (Some files) keys h.1 are_keys) (booted_keys h.0 h.1);
+      parts = booted_parts h.0 h.1 is_cart.accepted (keys_rise (Some files) keys h.1 are_keys) (booted_stays h.0 h.1).keys;
       back = k.2;
       wrote = w.0.2;
     }
@@ -144,9 +115,9 @@ module _ (laws : TopLaws) (cuts : RunsAreCut) (scripts : RunsKeepScript) (kept :
       let k = w.console in
       let boot = machine_booted w.file w.lines in
       let limit = w.limit in
-      let file : k.machine.file ≡ w.file = run_file kept first (At k.machine) boot w.outs w.ran ∙ booted_file w.file w.lines in
+      let file : k.machine.file ≡ w.file = run_file kept first (At k.machine) boot w.outs w.ran ∙ (booted_stays w.file w.lines).file in
       let lines : k.machine.keys ≡ script_from first w.lines =
-      scripts 0 first w.lines boot k.machine w.outs w.ran w.parts (omega arith) (booted_keys w.file w.lines ∙ sym (from_start w.lines)) in
+      scripts 0 first w.lines boot k.machine w.outs w.ran w.parts (omega arith) ((booted_stays w.file w.lines).keys ∙ sym (from_start w.lines)) in
       let here = subst (λ (n : ℕ). k.machine.keys ≡ script_from n w.lines) (sym limit) lines in
       subst (λ (f : List ℕ). read_state (sha256 f) later f w.lines (saved_state k) ≡ Ok k) file (w.back later w.lines (omega (arith, limit, lt)) here)
 

@@ -1,11 +1,7 @@
+use Rattle.ds_dma.proofs.Words.{Channel, channel_at, either_by, if◌then◌else◌, is_enabled, is_running, never, ◌||◌}
 use Rattle.std.proofs.Common.{ℕ, zero, suc, ◌≡◌, ◌<◌, refl, arith, Bool, true, false}
-use Rattle.std.specs.Prelude.{◌||◌, if◌then◌else◌}
-use Rattle.ds_base.proofs.Choices.{either_by, never}
-use Rattle.ds_dma.specs.declared.channels.Channel.{Channel}
-use Rattle.ds_dma.specs.Channels.{ChangesChannel, empties, is_running, latches, stays}
-use Rattle.ds_dma.specs.Controls.{is_enabled}
+use Rattle.ds_dma.specs.Channels.{ChangesChannel, empties, latches, stays}
 use Rattle.ds_dma.specs.Relations.{ControlsChange, LeastIsFound}
-use Rattle.ds_dma.specs.States.{channel_at}
 
 pub changes : ControlsChange
 changes proc which c control now =

@@ -1,17 +1,7 @@
+use Rattle.ds_dma.proofs.Words.{Cause, Channel, Control, DmaPort, DmaState, HasEarlyTicks, IsEarly, LastUnit, Proc, Source, Target, Tick, after_unit}
+use Rattle.ds_dma.proofs.Words.{channel_at, channel_controlled, channel_set, either_by, if◌then◌else◌, is_armed_again, is_enabled, is_last_of_burst}
+use Rattle.ds_dma.proofs.Words.{is_last_unit, is_triggered, kept_channel_control, last_tick, not, starts_immediately, triggered}
 use Rattle.std.proofs.Common.{ℕ, ◌<◌, ◌≤◌, ◌^◌, ◌≡◌, length, map, slice_set, sym, subst, Bool, true, false, Option, Some, None}
-use Rattle.std.specs.Prelude.{if◌then◌else◌, not}
-use Rattle.ds_base.specs.Schedules.{IsEarly}
-use Rattle.ds_base.specs.declared.processors.Proc.{Proc}
-use Rattle.ds_base.specs.declared.ticks.Tick.{Tick}
-use Rattle.ds_base.proofs.Choices.{either_by}
-use Rattle.ds_dma.specs.declared.channels.LastUnit.{LastUnit}
-use Rattle.ds_dma.specs.declared.controls.Cause.{Cause}
-use Rattle.ds_dma.specs.declared.controls.DmaPort.{DmaPort}
-use Rattle.ds_dma.specs.declared.controls.DmaPort.TheVariants.{Source, Target, Control}
-use Rattle.ds_dma.specs.Controls.{kept_channel_control, is_enabled, is_armed_again, starts_immediately}
-use Rattle.ds_dma.specs.declared.channels.Channel.{Channel}
-use Rattle.ds_dma.specs.Channels.{channel_controlled, channel_set, is_triggered, triggered, is_last_unit, is_last_of_burst, after_unit}
-use Rattle.ds_dma.specs.States.{DmaState, HasEarlyTicks, channel_at, last_tick}
 use Rattle.ds_dma.proofs.Fours.{at_mapped, set_holds}
 
 -- a tick that is early, where there is one

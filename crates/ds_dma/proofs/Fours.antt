@@ -1,10 +1,6 @@
+use Rattle.ds_dma.proofs.Words.{Channel, DmaState, IsChannel, IsDma, LastUnit, WaitsBriefly, channel_at, same_or_not}
 use Rattle.std.proofs.Common.{ℕ, ◌≡◌, ◌<◌, inl, inr, List, [], ◌∷◌, length, map, slice_set, refl, sym, ◌∙◌, subst, arith, get_or-set_same, get_or-set_other, length-set, Option}
 use Rattle.std.proofs.lemmas.List.{get_or-map, length-map}
-use Rattle.ds_base.proofs.Choices.{same_or_not}
-use Rattle.ds_dma.specs.declared.channels.LastUnit.{LastUnit}
-use Rattle.ds_dma.specs.declared.channels.Channel.{Channel}
-use Rattle.ds_dma.specs.Channels.{IsChannel}
-use Rattle.ds_dma.specs.States.{DmaState, IsDma, WaitsBriefly, channel_at}
 
 -- four are these four
 pub four_are : (channels : List Channel) → length channels ≡ 4

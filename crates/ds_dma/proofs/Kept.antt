@@ -1,17 +1,12 @@
+use Rattle.ds_dma.proofs.Words.{Card, Cause, Channel, Control, DmaPort, Geometry, HBlank, IsChannel, Proc, Source, Target, Tick, VBlank, after_unit}
+use Rattle.ds_dma.proofs.Words.{both, channel_control_mask, channel_controlled, channel_set, disabled, either_by, equal, greatest_count}
+use Rattle.ds_dma.proofs.Words.{if◌then◌else◌, is_armed_again, is_enabled, is_last_of_burst, is_last_unit, is_running, is_some, is_triggered}
+use Rattle.ds_dma.proofs.Words.{kept_channel_control, most_burst, never, not, not_true, triggered, unequal, unit_of, waits_for, ◌&&◌}
 use Rattle.std.proofs.Common.{ℕ, ◌≡◌, ◌≢◌, ◌<◌, ◌≤◌, ◌+◌, ◌-◌, ◌%◌, ◌^◌, refl, sym, ◌∙◌, ap, arith, rules, Bool, true, false, bit_and, Option, None}
-use Rattle.std.specs.Prelude.{◌&&◌, not, if◌then◌else◌, is_some}
 use Rattle.std.specs.Int.Bits.{and_self}
 use Rattle.std.proofs.lemmas.Nat.{and_assoc, and_comm, and_mask}
-use Rattle.ds_base.specs.declared.processors.Proc.{Proc}
-use Rattle.ds_base.specs.declared.ticks.Tick.{Tick}
-use Rattle.ds_base.proofs.Choices.{either_by, not_true, never, both, equal, unequal}
-use Rattle.ds_dma.specs.declared.controls.Cause.{Cause}
-use Rattle.ds_dma.specs.declared.controls.Cause.TheVariants.{VBlank, HBlank, Card, Geometry}
-use Rattle.ds_dma.specs.declared.controls.DmaPort.{DmaPort}
-use Rattle.ds_dma.specs.declared.controls.DmaPort.TheVariants.{Source, Target, Control}
-use Rattle.ds_dma.specs.Controls.{most_burst, kept_channel_control, channel_control_mask, greatest_count, units_counted, is_enabled, disabled, is_armed_again, waits_for, burst_of, latches_again}
-use Rattle.ds_dma.specs.declared.channels.Channel.{Channel}
-use Rattle.ds_dma.specs.Channels.{IsChannel, is_running, latched, emptied, channel_controlled, channel_set, is_triggered, triggered, unit_of, after_unit, is_last_unit, is_last_of_burst, rest_of}
+use Rattle.ds_dma.specs.Controls.{units_counted, burst_of, latches_again}
+use Rattle.ds_dma.specs.Channels.{latched, emptied, rest_of}
 
 -- the bits that are kept are kept again
 pub kept_twice : (proc : Proc) (which value : ℕ) → kept_channel_control proc which (kept_channel_control proc which value) ≡ kept_channel_control proc which value

@@ -1,3 +1,4 @@
+mod Words
 pub mod Made
 pub mod Plans
 pub mod SavedLaws

@@ -1,10 +1,5 @@
+use Rattle.ds_dma.proofs.Words.{Channel, HasEarlyTicks, IsChannel, IsDma, IsEarly, LastUnit, Proc, WaitsBriefly, channel_at, last_tick}
 use Rattle.std.proofs.Common.{ℕ, zero, suc, ◌<◌, [], ◌∷◌, Option, refl, arith}
-use Rattle.ds_base.specs.Schedules.{IsEarly}
-use Rattle.ds_base.specs.declared.processors.Proc.{Proc}
-use Rattle.ds_dma.specs.declared.channels.Channel.{Channel}
-use Rattle.ds_dma.specs.Channels.{IsChannel}
-use Rattle.ds_dma.specs.States.{HasEarlyTicks, IsDma, WaitsBriefly, channel_at, last_tick}
-use Rattle.ds_dma.specs.declared.channels.LastUnit.{LastUnit}
 
 -- Four that are each a channel in their place are the channels.
 

@@ -1,13 +1,10 @@
-use Rattle.std.proofs.Common.{ℕ, zero, suc, ◌≡◌, ◌<◌, ◌≤◌, ◌+◌, ◌-◌, ◌*◌, ◌%◌, ◌^◌, List, [], ◌∷◌, map, refl, sym, ◌∙◌, ap, arith}
-use Rattle.std.specs.Prelude.{not, if◌then◌else◌, None}
+use Rattle.ds_dma.proofs.Words.{Channel, Proc, after_unit, disabled, either_by, equal, if◌then◌else◌, is_armed_again, is_last_of_burst, is_last_unit}
+use Rattle.ds_dma.proofs.Words.{not, not_false, not_true, unequal, unit_of}
+use Rattle.std.proofs.Common.{ℕ, zero, suc, ◌≡◌, ◌<◌, ◌≤◌, ◌+◌, ◌-◌, ◌*◌, ◌%◌, ◌^◌, List, [], ◌∷◌, map, refl, sym, ◌∙◌, ap, arith, None}
 use Rattle.std.specs.List.{range_with_len}
 use Rattle.std.proofs.Math.Nat.{mod-add-mod, mod-eq_of_lt}
-use Rattle.ds_base.specs.declared.processors.Proc.{Proc}
-use Rattle.ds_base.proofs.Choices.{either_by, not_false, not_true, equal, unequal}
 use Rattle.ds_dma.specs.declared.channels.Unit.{Unit as DmaUnit}
-use Rattle.ds_dma.specs.Controls.{disabled, is_armed_again}
-use Rattle.ds_dma.specs.declared.channels.Channel.{Channel}
-use Rattle.ds_dma.specs.Channels.{plan_of, unit_of, address_of, source_step, target_step, emptied, rest_of, TakesUnit, more_units, pauses, again, ends, after_unit, is_last_unit, is_last_of_burst}
+use Rattle.ds_dma.specs.Channels.{plan_of, address_of, source_step, target_step, emptied, rest_of, TakesUnit, more_units, pauses, again, ends}
 
 -- the address of the unit after this one, from the first and from the second
 shifted : (first step i : ℕ) → address_of first step (i + 1) ≡ address_of (address_of first step 1) step i

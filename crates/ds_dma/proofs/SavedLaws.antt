@@ -1,17 +1,11 @@
-use Rattle.std.proofs.Common.{rules, ℕ, zero, suc, ◌≡◌, ◌<◌, ◌≤◌, ◌+◌, ◌%◌, ◌^◌, ◌==◌, ◌&&◌, ◌||◌, not, nat_le, Bool, true, false, true≢false, List, [], ◌∷◌, Option, Some, None, is_some, IfSome, bit_and, refl, sym, ◌∙◌, ap, subst, arith}
+use Rattle.ds_dma.proofs.Words.{Channel, DmaState, IsChannel, IsDma, LastUnit, Proc, Tick, WaitsBriefly, any_runs, both, both_true, channel_at}
+use Rattle.ds_dma.proofs.Words.{channel_control_mask, dma_due, due_number, either_by, equal, greatest_count, if_false, is_enabled, is_equal, is_le}
+use Rattle.ds_dma.proofs.Words.{is_running, is_some, is_unequal, last_tick, le_of, most_burst, most_waits, numbered_due, ◌||◌}
+use Rattle.std.proofs.Common.{rules, ℕ, zero, suc, ◌≡◌, ◌<◌, ◌≤◌, ◌+◌, ◌%◌, ◌^◌, ◌==◌, nat_le, Bool, true, false, List, [], ◌∷◌, Option, Some, None, IfSome, bit_and, refl, sym, ◌∙◌, ap, subst, arith}
 use Rattle.std.specs.Int.Bits.{and_le_r, and_mask}
-use Rattle.ds_base.specs.Schedules.{due_number, numbered_due}
-use Rattle.ds_base.specs.declared.processors.Proc.{Proc}
-use Rattle.ds_base.specs.declared.ticks.Tick.{Tick}
 use Rattle.ds_base.specs.declared.processors.Proc.TheVariants.{Nine, Seven}
-use Rattle.ds_base.proofs.Choices.{both, both_true, either_by, equal, if_false, is_equal, is_le, is_unequal, le_of}
 use Rattle.ds_base.proofs.DueNumbers.{due_again, number_again}
-use Rattle.ds_dma.specs.declared.channels.Channel.{Channel}
-use Rattle.ds_dma.specs.Channels.{IsChannel, is_running}
-use Rattle.ds_dma.specs.Controls.{channel_control_mask, greatest_count, is_enabled, most_burst}
 use Rattle.ds_dma.specs.Saved.{AreTriggeredBy, ComesNoEarlier, DmasAreSaved, asked_last, burst_left, channel_format, comes_by, channel_format_by, dma_format, dma_format_by, last_by, last_waits, numbered_last, runs_by, units_left, waits_by}
-use Rattle.ds_dma.specs.States.{DmaState, IsDma, WaitsBriefly, any_runs, channel_at, dma_due, last_tick, most_waits}
-use Rattle.ds_dma.specs.declared.channels.LastUnit.{LastUnit}
 use Rattle.ds_dma.specs.declared.dma.DmaDue.{DmaDue}
 use Rattle.ds_dma.proofs.Fours.{four_are}
 use Rattle.ds_state.proofs.Earlier.{earlier_again, earlier_fits, earlier_holds, earlier_made}

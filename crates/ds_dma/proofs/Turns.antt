@@ -1,18 +1,10 @@
+use Rattle.ds_dma.proofs.Words.{AreReadyLater, Cause, Channel, Control, DmaPort, DmaState, IsDma, IsLater, IsSome, LastUnit, Proc, Reschedules}
+use Rattle.ds_dma.proofs.Words.{Source, Target, Tick, after_both, channel_at, channel_controlled, channel_due, channel_set, dma_due, dma_finished}
+use Rattle.ds_dma.proofs.Words.{dma_triggered, due_channel, due_with, either_by, equal, if_false, if_true, if◌then◌else◌, is_enabled, is_equal}
+use Rattle.ds_dma.proofs.Words.{is_running, is_some, is_triggered, kept_channel_control, least_running, never, ready, starts_immediately, triggered}
 use Rattle.std.proofs.Common.{ℕ, ◌≡◌, ◌<◌, ◌≤◌, ◌+◌, inl, inr, List, map, slice_set, refl, sym, ◌∙◌, subst, ap, arith, Bool, true, false, Option, Some, None}
-use Rattle.std.specs.Prelude.{◌==◌, if◌then◌else◌, is_some, option_map, IsSome}
+use Rattle.std.specs.Prelude.{◌==◌, option_map}
 use Rattle.std.proofs.Math.Nat.{le-max_left, le-max_right}
-use Rattle.ds_base.specs.Schedules.{IsLater, Reschedules}
-use Rattle.ds_base.specs.declared.processors.Proc.{Proc}
-use Rattle.ds_base.specs.declared.ticks.Tick.{Tick}
-use Rattle.ds_base.proofs.Choices.{either_by, never, equal, is_equal, if_true, if_false}
-use Rattle.ds_dma.specs.declared.channels.LastUnit.{LastUnit}
-use Rattle.ds_dma.specs.declared.controls.Cause.{Cause}
-use Rattle.ds_dma.specs.declared.controls.DmaPort.{DmaPort}
-use Rattle.ds_dma.specs.declared.controls.DmaPort.TheVariants.{Source, Target, Control}
-use Rattle.ds_dma.specs.Controls.{kept_channel_control, is_enabled, starts_immediately}
-use Rattle.ds_dma.specs.declared.channels.Channel.{Channel}
-use Rattle.ds_dma.specs.Channels.{is_running, channel_controlled, channel_set, is_triggered, triggered, ready, after_both}
-use Rattle.ds_dma.specs.States.{DmaState, IsDma, AreReadyLater, channel_at, dma_triggered, least_running, channel_due, due_with, dma_due, due_channel, dma_finished}
 use Rattle.ds_dma.proofs.Kept.{runs_on}
 use Rattle.ds_dma.proofs.Fours.{set_holds, at_mapped}
 

@@ -1,16 +1,10 @@
+use Rattle.ds_dma.proofs.Words.{AreReadyLater, Cause, Channel, DmaPort, DmaState, Geometry, IsDma, IsSome, Proc, Tick, after_unit, and_false}
+use Rattle.ds_dma.proofs.Words.{any_runs, channel_at, channel_refusal, channel_set, dma_due, dma_finished, dma_triggered, due_channel, either_by}
+use Rattle.ds_dma.proofs.Words.{if_false, if◌then◌else◌, is_enabled, is_running, is_some, is_triggered, least_running, most_waits, neither, never}
+use Rattle.ds_dma.proofs.Words.{triggered, waits_for, ◌&&◌, ◌||◌}
 use Rattle.std.proofs.Common.{ℕ, ◌≡◌, ◌<◌, ◌≤◌, [], ◌∷◌, length, map, refl, sym, ◌∙◌, ap, arith, Bool, true, false, Option, Some, None}
-use Rattle.std.specs.Prelude.{◌||◌, ◌&&◌, IsSome, is_some, if◌then◌else◌}
 use Rattle.ds_base.specs.declared.left_out.Stop.{Stop}
-use Rattle.ds_base.specs.declared.processors.Proc.{Proc}
-use Rattle.ds_base.specs.declared.ticks.Tick.{Tick}
-use Rattle.ds_base.proofs.Choices.{either_by, and_false, never, neither, if_false}
-use Rattle.ds_dma.specs.declared.controls.Cause.{Cause}
-use Rattle.ds_dma.specs.declared.controls.Cause.TheVariants.{Geometry}
-use Rattle.ds_dma.specs.declared.controls.DmaPort.{DmaPort}
-use Rattle.ds_dma.specs.Controls.{is_enabled, waits_for}
-use Rattle.ds_dma.specs.declared.channels.Channel.{Channel}
-use Rattle.ds_dma.specs.Channels.{channel_refusal, channel_set, is_running, is_triggered, after_unit, triggered}
-use Rattle.ds_dma.specs.States.{DmaState, IsDma, AreReadyLater, any_runs, awaits_geometry, channel_at, channel_written, dma_due, dma_finished, dma_triggered, due_channel, least_running, most_waits}
+use Rattle.ds_dma.specs.States.{awaits_geometry, channel_written}
 use Rattle.ds_dma.proofs.Fours.{are_set, at_mapped, four_are, mapped_is}
 use Rattle.ds_dma.proofs.Kept.{taken_is, triggered_is, written_is}
 use Rattle.ds_dma.proofs.Turns.{due_is_on, least_below, still_runs, written_later}

@@ -1,9 +1,5 @@
+use Rattle.ds_dma.proofs.Words.{Channel, DmaState, IsChannel, IsEarly, after_unit, channel_at, due_channel, is_enabled}
 use Rattle.std.proofs.Common.{◌≡◌, ◌∙◌, sym, subst, ap, true}
-use Rattle.ds_base.specs.Schedules.{IsEarly}
-use Rattle.ds_dma.specs.declared.channels.Channel.{Channel}
-use Rattle.ds_dma.specs.Channels.{IsChannel, after_unit}
-use Rattle.ds_dma.specs.Controls.{is_enabled}
-use Rattle.ds_dma.specs.States.{DmaState, channel_at, due_channel}
 use Rattle.ds_dma.proofs.Early.{taken_early}
 use Rattle.ds_dma.proofs.Kept.{taken_is}
 use Rattle.ds_dma.proofs.Turns.{due_is_on}

@@ -1,8 +1,6 @@
+use Rattle.ds_dma.proofs.Words.{AreReadyLater, Cause, DmaState, HasEarlyTicks, IsDma, Reschedules, channel_at, channel_due, dma_triggered, triggered}
 use Rattle.std.proofs.Common.{◌≡◌, [], ◌∷◌, ◌∙◌, sym, subst, ap, map, false}
-use Rattle.ds_base.specs.Schedules.{Reschedules}
-use Rattle.ds_dma.specs.Channels.{triggered}
-use Rattle.ds_dma.specs.declared.controls.Cause.{Cause}
-use Rattle.ds_dma.specs.States.{DmaState, HasEarlyTicks, IsDma, AreReadyLater, awaits_geometry, channel_at, channel_due, dma_triggered}
+use Rattle.ds_dma.specs.States.{awaits_geometry}
 use Rattle.ds_dma.proofs.Early.{mapped_early, triggered_early}
 use Rattle.ds_dma.proofs.Fours.{four_are, mapped_is}
 use Rattle.ds_dma.proofs.Kept.{triggered_is}

@@ -1,6 +1,5 @@
+use Rattle.ds_dma.proofs.Words.{channel_at, due_channel, unit_of}
 use Rattle.std.proofs.Common.{◌≡◌, ◌∷◌, ◌∙◌, sym, ap}
-use Rattle.ds_dma.specs.Channels.{unit_of}
-use Rattle.ds_dma.specs.States.{channel_at, due_channel}
 use Rattle.ds_dma.proofs.Plans.{has_first}
 use Rattle.ds_dma.proofs.Turns.{due_has_some}
 use Rattle.ds_dma.proofs.dma.Dma.unit.Goals as goal

@@ -1,8 +1,5 @@
+use Rattle.ds_dma.proofs.Words.{AreReadyLater, Channel, DmaState, IsChannel, IsEarly, channel_at, channel_due, channel_set}
 use Rattle.std.proofs.Common.{◌≡◌, ◌∙◌, sym, subst, ap, slice_set}
-use Rattle.ds_base.specs.Schedules.{IsEarly}
-use Rattle.ds_dma.specs.declared.channels.Channel.{Channel}
-use Rattle.ds_dma.specs.Channels.{IsChannel, channel_set}
-use Rattle.ds_dma.specs.States.{DmaState, channel_at, channel_due, AreReadyLater}
 use Rattle.ds_dma.proofs.Early.{written_early}
 use Rattle.ds_dma.proofs.Kept.{written_is}
 use Rattle.ds_dma.proofs.Turns.{all_later, written_later}

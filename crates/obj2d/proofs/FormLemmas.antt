@@ -1,16 +1,9 @@
-use Rattle.std.proofs.Common.{ℕ, ◌≡◌, ◌≢◌, ◌<◌, ◌≤◌, ◌^◌, ◌&&◌, List, inl, inr, sym, ◌∙◌, arith}
-use Rattle.std.specs.Prelude.{nat_lt, Option, Some, None}
-use Rattle.vram_banks.specs.Cells.{Banks}
+use Rattle.obj2d.proofs.Words.{Banks, Display, IsLayerPixel, IsPixel, List, None, Object, ObjectPixel, Option, SeenObject, Some, across}
+use Rattle.obj2d.proofs.Words.{affine_across, affine_down, arith, box_width, down, flips_across, flips_down, group, height, inl, inr, is_affine}
+use Rattle.obj2d.proofs.Words.{is_drawn, mirrored, nat_lt, object_at, seen_at, sym, turn_at, width, ℕ, ◌&&◌, ◌<◌, ◌^◌, ◌∙◌, ◌≡◌, ◌≢◌, ◌≤◌}
 use Rattle.vram_banks.specs.Colours.{HasForm}
 use Rattle.vram_banks.proofs.FormLemmas.{choice_form, zero_form, indexed_form}
-use Rattle.obj2d.specs.declared.layers.ObjectPixel.{ObjectPixel}
-use Rattle.obj2d.specs.declared.objects.Display.{Display}
-use Rattle.obj2d.specs.declared.objects.Object.{Object}
-use Rattle.obj2d.specs.Attributes.{object_at, turn_at, group, width, height, box_width, is_affine, flips_across, flips_down}
-use Rattle.obj2d.specs.Places.{across, down, is_drawn, mirrored, affine_across, affine_down}
 use Rattle.obj2d.specs.ObjectPixels.{object_index, object_colour, place_pixel, turned_pixel, flat_pixel, box_pixel, pixel_of}
-use Rattle.obj2d.specs.ObjectLayer.{SeenObject, seen_at}
-use Rattle.obj2d.specs.ObjectLaws.{IsLayerPixel, IsPixel}
 
 -- A pixel has bit 15 set, or is 0.
 

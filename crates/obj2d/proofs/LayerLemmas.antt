@@ -1,12 +1,9 @@
-use Rattle.std.proofs.Common.{ℕ, zero, suc, Bool, true, false, ◌≡◌, ◌≢◌, ◌<◌, ◌≤◌, ◌+◌, ◌⊎◌, ◌==◌, inl, inr, length, get_or, set, refl, sym, ◌∙◌, ap, subst, arith}
-use Rattle.std.specs.Prelude.{slice_set}
-use Rattle.std.proofs.lemmas.List.{get_or-set_same, get_or-set_other}
+use Rattle.obj2d.proofs.Words.{AreInSpans, Bool, IsBefore, IsFrontObject, IsInSpan, IsInWindow, IsLayerPixel, IsNone, IsOf, IsTransparent}
+use Rattle.obj2d.proofs.Words.{ObjectPixel, SeenObject, Spans, ap, arith, get_or, get_or-set_other, get_or-set_same, inl, inr, lanes_pixel, length}
+use Rattle.obj2d.proofs.Words.{pixel_below, refl, slice_set, subst, suc, sym, true, with_object, zero, ℕ, ◌+◌, ◌<◌, ◌==◌, ◌∙◌, ◌≡◌, ◌≢◌, ◌≤◌}
+use Rattle.std.proofs.Common.{◌⊎◌, set}
 use Rattle.std.proofs.lemmas.Bool.{cases_eq, cases_lt, false≢true}
 use Rattle.obj2d.specs.declared.layers.ObjectLanes.{ObjectLanes}
-use Rattle.obj2d.specs.declared.layers.ObjectPixel.{ObjectPixel}
-use Rattle.obj2d.specs.declared.layers.Spans.{Spans}
-use Rattle.obj2d.specs.ObjectLayer.{SeenObject, with_object, pixel_below}
-use Rattle.obj2d.specs.ObjectLaws.{AreInSpans, IsInSpan, lanes_pixel, IsBefore, IsFrontObject, IsOf, IsTransparent, IsNone, IsInWindow, IsLayerPixel}
 
 -- ---- what one more object leaves
 

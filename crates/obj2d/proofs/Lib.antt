@@ -1,3 +1,4 @@
+mod Words
 pub mod FormLemmas
 pub mod LayerLemmas
 pub mod OffLemmas

@@ -1,15 +1,9 @@
-use Rattle.std.proofs.Common.{ℕ, zero, suc, Bool, true, false, ◌≡◌, ◌<◌, ◌≤◌, ◌+◌, ◌==◌, ◌&&◌, not, nat_lt, List, inl, inr, refl, sym, ◌∙◌, ap, subst, arith}
+use Rattle.obj2d.proofs.Words.{AreNotDrawn, Banks, Bool, Display, List, Object, ObjectPixel, SeenObject, ap, arith, blank_pixel, box_height, down}
+use Rattle.obj2d.proofs.Words.{false, inl, inr, is_drawn, is_off, mode, nat_lt, not, object_at, object_pixel, pixel_below, refl, seen_at, subst, suc}
+use Rattle.obj2d.proofs.Words.{sym, true, with_object, zero, ℕ, ◌&&◌, ◌+◌, ◌<◌, ◌==◌, ◌∙◌, ◌≡◌, ◌≤◌}
 use Rattle.std.proofs.lemmas.Bool.{cases_eq}
 use Rattle.ds_base.specs.Bits.{bit}
 use Rattle.ds_base.proofs.Choices.{and_false}
-use Rattle.vram_banks.specs.Cells.{Banks}
-use Rattle.obj2d.specs.declared.objects.Display.{Display}
-use Rattle.obj2d.specs.declared.objects.Object.{Object}
-use Rattle.obj2d.specs.declared.layers.ObjectPixel.{ObjectPixel}
-use Rattle.obj2d.specs.Attributes.{box_height, is_off, mode, object_at}
-use Rattle.obj2d.specs.Places.{down, is_drawn}
-use Rattle.obj2d.specs.ObjectLayer.{SeenObject, blank_pixel, object_pixel, pixel_below, seen_at, with_object}
-use Rattle.obj2d.specs.rows.Strips.{AreNotDrawn}
 use Rattle.obj2d.proofs.FormLemmas.{seen_small}
 use Rattle.obj2d.proofs.StripLemmas.{nothing_seen}
 

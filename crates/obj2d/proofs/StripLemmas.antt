@@ -1,19 +1,13 @@
-use Rattle.std.proofs.Common.{ℕ, Bool, true, false, ◌≡◌, ◌≢◌, ◌<◌, ◌≤◌, ◌+◌, ◌-◌, ◌*◌, ◌/◌, ◌%◌, ◌^◌, ◌==◌, ◌&&◌, inl, inr, List, get_or, refl, sym, ◌∙◌, ap, subst, arith}
-use Rattle.std.specs.Prelude.{nat_lt, if◌then◌else◌}
+use Rattle.obj2d.proofs.Words.{Banks, Bool, Display, IsLaid, List, Object, ObjectPixel, SeenObject, across, ap, arith, box_width, down, false}
+use Rattle.obj2d.proofs.Words.{flipped, flips_across, get_or, group, if◌then◌else◌, inl, inr, is_affine, is_drawn, left_edge, mirrored, mode, nat_lt}
+use Rattle.obj2d.proofs.Words.{nibble_at, object_at, object_has_256, object_size, palette_number, priority, refl, seen_at, shape, subst, sym, true}
+use Rattle.obj2d.proofs.Words.{turn_at, vram_byte, width, widths, with_object, ℕ, ◌%◌, ◌&&◌, ◌*◌, ◌+◌, ◌-◌, ◌/◌, ◌<◌, ◌==◌, ◌^◌, ◌∙◌, ◌≡◌, ◌≢◌, ◌≤◌}
 use Rattle.std.proofs.lemmas.Bool.{cases_eq, cases_lt, cases_Bool, agree_below_at, eqb-true, ltb-true, lt-ltb, le-ltb}
-use Rattle.vram_banks.specs.Cells.{Banks, vram_byte}
 use Rattle.ds_base.specs.declared.memories.Space.{Space}
 use Rattle.vram_banks.specs.Colours.{indexed_pixel, palette_colour, extended_colour, IsTable}
-use Rattle.vram_banks.specs.Tiles.{nibble_at, flipped}
 use Rattle.vram_banks.proofs.PaletteLemmas.{read_pixel, tabled_16, tabled_256}
-use Rattle.obj2d.specs.declared.layers.ObjectPixel.{ObjectPixel}
-use Rattle.obj2d.specs.declared.objects.Display.{Display}
-use Rattle.obj2d.specs.declared.objects.Object.{Object}
-use Rattle.obj2d.specs.Attributes.{object_at, turn_at, group, widths, shape, object_size, width, left_edge, box_width, object_has_256, palette_number, priority, mode, flips_across, is_affine}
-use Rattle.obj2d.specs.Places.{across, down, is_drawn, mirrored}
 use Rattle.obj2d.specs.ObjectPixels.{object_space, object_palette_space, object_index, object_colour, point_pixel, flat_pixel, turned_pixel, box_pixel, pixel_of}
-use Rattle.obj2d.specs.ObjectLayer.{SeenObject, with_object, seen_at}
-use Rattle.obj2d.specs.rows.Strips.{object_tile_row, mirrored_tile, object_colours, AreObjectPixels, AreBox, IsColoured, strip_seen, IsLaid}
+use Rattle.obj2d.specs.rows.Strips.{object_tile_row, mirrored_tile, object_colours, AreObjectPixels, AreBox, IsColoured, strip_seen}
 use Rattle.obj2d.specs.rows.Spans.{span_first, span_start, span_count}
 use Rattle.obj2d.proofs.LayerLemmas.{unseen}
 

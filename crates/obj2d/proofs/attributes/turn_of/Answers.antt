@@ -1,7 +1,6 @@
-use Rattle.std.proofs.Common.{ℕ, ◌≡◌, List, ◌∙◌, ap, refl, rules, FitsSigned, to_z, of_z}
+use Rattle.obj2d.proofs.Words.{FitsSigned, List, ap, group, group_number, of_z, refl, rules, to_z, ℕ, ◌∙◌, ◌≡◌}
 use Rattle.std.specs.Int.{w16}
 use Rattle.std.proofs.lemmas.Int.{to_z-of_z}
-use Rattle.obj2d.specs.Attributes.{group, group_number}
 use Rattle.obj2d.proofs.attributes.turn_of.Goals as goal
 
 pub returns : goal.returns

@@ -1,6 +1,4 @@
-use Rattle.std.proofs.Common.{ℕ, ◌≡◌, ◌<◌}
-use Rattle.obj2d.specs.ObjectLayer.{blank_pixel}
-use Rattle.obj2d.specs.ObjectLaws.{lanes_pixel}
+use Rattle.obj2d.proofs.Words.{blank_pixel, lanes_pixel, ℕ, ◌<◌, ◌≡◌}
 use Rattle.obj2d.proofs.lanes.clear.Given as goal
 
 abbrev pub invariant-loop-x : goal.invariant-loop-x

@@ -1,9 +1,4 @@
-use Rattle.std.proofs.Common.{◌≡◌, ◌+◌, true, sym, ◌∙◌, ap, subst}
-use Rattle.obj2d.specs.Attributes.{box_width, left_edge, priority}
-use Rattle.obj2d.specs.ObjectLayer.{seen_at}
-use Rattle.obj2d.specs.Places.{is_drawn}
-use Rattle.obj2d.specs.declared.objects.Object.{Object}
-use Rattle.obj2d.specs.ObjectLaws.{lanes_pixel}
+use Rattle.obj2d.proofs.Words.{Object, ap, box_width, is_drawn, lanes_pixel, left_edge, priority, seen_at, subst, sym, true, ◌+◌, ◌∙◌, ◌≡◌}
 use Rattle.obj2d.proofs.StripLemmas.{drawn, nothing_seen, rank_of, seen_covered}
 use Rattle.obj2d.proofs.LayerLemmas.{within_more}
 use Rattle.obj2d.proofs.layers.draw.Goals as goal

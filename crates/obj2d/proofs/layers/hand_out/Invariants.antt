@@ -1,5 +1,4 @@
-use Rattle.std.proofs.Common.{ℕ, ◌≡◌, ◌<◌}
-use Rattle.obj2d.specs.ObjectLaws.{lanes_pixel, pixel_at}
+use Rattle.obj2d.proofs.Words.{lanes_pixel, pixel_at, ℕ, ◌<◌, ◌≡◌}
 use Rattle.obj2d.proofs.layers.hand_out.Given as goal
 
 abbrev pub invariant-loop-x : goal.invariant-loop-x

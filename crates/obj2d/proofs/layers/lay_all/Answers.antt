@@ -1,7 +1,4 @@
-use Rattle.std.proofs.Common.{ℕ, ◌≡◌, sym, ◌∙◌, ap, subst, arith}
-use Rattle.obj2d.specs.declared.layers.ObjectPixel.{ObjectPixel}
-use Rattle.obj2d.specs.ObjectLayer.{SeenObject, pixel_below, with_object, seen_at}
-use Rattle.obj2d.specs.ObjectLaws.{lanes_pixel}
+use Rattle.obj2d.proofs.Words.{ObjectPixel, SeenObject, ap, arith, lanes_pixel, pixel_below, seen_at, subst, sym, with_object, ℕ, ◌∙◌, ◌≡◌}
 use Rattle.obj2d.proofs.LayerLemmas.{pixel_below_more}
 use Rattle.obj2d.proofs.OffLemmas.{none_before}
 use Rattle.obj2d.proofs.layers.lay_all.Goals as goal

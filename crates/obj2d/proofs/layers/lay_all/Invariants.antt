@@ -1,6 +1,4 @@
-use Rattle.std.proofs.Common.{ℕ, ◌≡◌, ◌<◌}
-use Rattle.obj2d.specs.ObjectLayer.{pixel_below, seen_at}
-use Rattle.obj2d.specs.ObjectLaws.{AreInSpans, lanes_pixel}
+use Rattle.obj2d.proofs.Words.{AreInSpans, lanes_pixel, pixel_below, seen_at, ℕ, ◌<◌, ◌≡◌}
 use Rattle.obj2d.proofs.layers.lay_all.Given as goal
 
 abbrev pub invariant-loop-number : goal.invariant-loop-number

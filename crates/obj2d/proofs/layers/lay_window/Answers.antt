@@ -1,5 +1,4 @@
-use Rattle.std.proofs.Common.{ℕ, ◌≡◌, ◌+◌, arith}
-use Rattle.obj2d.specs.ObjectLaws.{lanes_pixel}
+use Rattle.obj2d.proofs.Words.{arith, lanes_pixel, ℕ, ◌+◌, ◌≡◌}
 use Rattle.obj2d.proofs.StripLemmas.{laid_more, placed_span}
 use Rattle.obj2d.proofs.layers.lay_window.Goals as goal
 

@@ -1,6 +1,4 @@
-use Rattle.std.proofs.Common.{◌+◌}
-use Rattle.obj2d.specs.rows.Strips.{IsLaid}
-use Rattle.obj2d.specs.ObjectLaws.{lanes_pixel}
+use Rattle.obj2d.proofs.Words.{IsLaid, lanes_pixel, ◌+◌}
 use Rattle.obj2d.proofs.layers.lay_window.Given as goal
 
 abbrev pub invariant-loop-i : goal.invariant-loop-i

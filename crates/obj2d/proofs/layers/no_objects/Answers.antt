@@ -1,6 +1,4 @@
-use Rattle.std.proofs.Common.{ℕ, ◌==◌, ap}
-use Rattle.std.proofs.lemmas.List.{get_or-replicate}
-use Rattle.obj2d.specs.declared.layers.ObjectPixel.{ObjectPixel}
+use Rattle.obj2d.proofs.Words.{ObjectPixel, ap, get_or-replicate, ℕ, ◌==◌}
 use Rattle.obj2d.proofs.layers.no_objects.Goals as goal
 
 pub returns : goal.returns

@@ -1,4 +1,4 @@
-use Rattle.std.proofs.lemmas.List.{get_or-replicate}
+use Rattle.obj2d.proofs.Words.{get_or-replicate}
 use Rattle.obj2d.proofs.layers.no_spans.Goals as goal
 
 pub returns : goal.returns

@@ -1,5 +1,4 @@
-use Rattle.std.proofs.Common.{◌≡◌, subst, arith}
-use Rattle.obj2d.specs.rows.Strips.{AreNotDrawn}
+use Rattle.obj2d.proofs.Words.{AreNotDrawn, arith, subst, ◌≡◌}
 use Rattle.obj2d.proofs.OffLemmas.{none_before}
 use Rattle.obj2d.proofs.layers.object_lanes.Goals as goal
 

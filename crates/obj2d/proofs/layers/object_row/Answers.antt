@@ -1,8 +1,4 @@
-use Rattle.std.proofs.Common.{ℕ, refl, ◌∙◌, ap, arith}
-use Rattle.obj2d.specs.declared.layers.ObjectPixel.{ObjectPixel}
-use Rattle.obj2d.specs.declared.objects.Display.{Display}
-use Rattle.obj2d.specs.ObjectLayer.{SeenObject, seen_at}
-use Rattle.obj2d.specs.ObjectLaws.{pixel_at}
+use Rattle.obj2d.proofs.Words.{Display, ObjectPixel, SeenObject, ap, arith, pixel_at, refl, seen_at, ℕ, ◌∙◌}
 use Rattle.obj2d.proofs.FormLemmas.{seen_form, seen_small, layer_form}
 use Rattle.obj2d.proofs.LayerLemmas.{stands_at}
 use Rattle.obj2d.proofs.OffLemmas.{object_small}

@@ -1,7 +1,4 @@
-use Rattle.std.proofs.Common.{◌≡◌, length, refl, arith, rules}
-use Rattle.std.specs.Prelude.{slice_set}
-use Rattle.std.proofs.lemmas.List.{get_or-set_same}
-use Rattle.obj2d.specs.declared.layers.Spans.{Spans}
+use Rattle.obj2d.proofs.Words.{Spans, arith, get_or-set_same, length, refl, rules, slice_set, ◌≡◌}
 use Rattle.obj2d.proofs.LayerLemmas.{wider}
 use Rattle.obj2d.proofs.layers.widen.Goals as goal
 

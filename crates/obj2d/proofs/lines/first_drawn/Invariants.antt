@@ -1,5 +1,4 @@
-use Rattle.std.proofs.Common.{◌-◌, ◌≤◌}
-use Rattle.obj2d.specs.rows.Strips.{AreNotDrawn}
+use Rattle.obj2d.proofs.Words.{AreNotDrawn, ◌-◌, ◌≤◌}
 use Rattle.obj2d.proofs.lines.first_drawn.Given as goal
 
 abbrev pub invariant-numbers : goal.invariant-numbers

@@ -1,4 +1,4 @@
-use Rattle.std.proofs.Common.{◌+◌, ◌*◌, ◌/◌}
+use Rattle.obj2d.proofs.Words.{◌*◌, ◌+◌, ◌/◌}
 use Rattle.obj2d.proofs.StripLemmas.{whole_address}
 use Rattle.obj2d.proofs.pixels.tile_address.Goals as goal
 

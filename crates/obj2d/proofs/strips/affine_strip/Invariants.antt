@@ -1,4 +1,4 @@
-use Rattle.std.proofs.Common.{ℕ, ◌≡◌, ◌<◌, get_or}
+use Rattle.obj2d.proofs.Words.{get_or, ℕ, ◌<◌, ◌≡◌}
 use Rattle.obj2d.specs.ObjectPixels.{turned_pixel}
 use Rattle.obj2d.proofs.strips.affine_strip.Given as goal
 

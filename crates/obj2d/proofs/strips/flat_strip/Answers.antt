@@ -1,8 +1,5 @@
-use Rattle.std.proofs.Common.{ℕ, Bool, ◌≡◌, ◌∙◌, ap}
-use Rattle.obj2d.specs.Attributes.{width, height, flips_across, flips_down}
-use Rattle.obj2d.specs.Places.{mirrored}
+use Rattle.obj2d.proofs.Words.{Bool, Object, ap, flips_across, flips_down, height, mirrored, width, ℕ, ◌∙◌, ◌≡◌}
 use Rattle.obj2d.specs.ObjectPixels.{point_pixel}
-use Rattle.obj2d.specs.declared.objects.Object.{Object}
 use Rattle.obj2d.proofs.StripLemmas.{painted_is_flat}
 use Rattle.obj2d.proofs.strips.flat_strip.Goals as goal
 

@@ -1,7 +1,4 @@
-use Rattle.std.proofs.Common.{ℕ, Bool, ◌≡◌, ◌<◌, ◌+◌, ◌∙◌, ap, get_or, arith}
-use Rattle.vram_banks.specs.Cells.{vram_byte}
-use Rattle.vram_banks.specs.Tiles.{flipped}
-use Rattle.obj2d.specs.Attributes.{flips_across}
+use Rattle.obj2d.proofs.Words.{Bool, ap, arith, flipped, flips_across, get_or, vram_byte, ℕ, ◌+◌, ◌<◌, ◌∙◌, ◌≡◌}
 use Rattle.obj2d.proofs.StripLemmas.{flipped_below, wide_point}
 use Rattle.obj2d.proofs.strips.paint_wide_tile.Goals as goal
 

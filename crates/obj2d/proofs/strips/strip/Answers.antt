@@ -1,4 +1,4 @@
-use Rattle.std.proofs.Common.{ℕ, ◌*◌, ◌∙◌, ◌/◌, ◌%◌, ◌^◌, ap, sym}
+use Rattle.obj2d.proofs.Words.{ap, sym, ℕ, ◌%◌, ◌*◌, ◌/◌, ◌^◌, ◌∙◌}
 use Rattle.obj2d.proofs.StripLemmas.{coloured_16, coloured_256, off_by}
 use Rattle.obj2d.proofs.strips.strip.Goals as goal
 

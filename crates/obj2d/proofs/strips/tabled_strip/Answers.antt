@@ -1,4 +1,4 @@
-use Rattle.std.proofs.Common.{sym, ◌∙◌}
+use Rattle.obj2d.proofs.Words.{sym, ◌∙◌}
 use Rattle.obj2d.proofs.StripLemmas.{box_affine, box_flat}
 use Rattle.obj2d.proofs.strips.tabled_strip.Goals as goal
 

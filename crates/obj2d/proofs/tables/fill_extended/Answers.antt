@@ -1,5 +1,4 @@
-use Rattle.std.proofs.Common.{ℕ, ◌+◌, ◌*◌, ◌∙◌, ap, rules}
-use Rattle.vram_banks.specs.Cells.{vram_byte}
+use Rattle.obj2d.proofs.Words.{ap, rules, vram_byte, ℕ, ◌*◌, ◌+◌, ◌∙◌}
 use Rattle.obj2d.proofs.StripLemmas.{coloured_extended}
 use Rattle.obj2d.proofs.tables.fill_extended.Goals as goal
 

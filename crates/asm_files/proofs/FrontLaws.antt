@@ -1,17 +1,9 @@
 -- Listings, fronts of listings, and first bad lines.
-use Rattle.std.proofs.Common.{ℕ, suc, ◌≡◌, ◌≢◌, ◌<◌, ◌≤◌, ◌+◌, ◌^◌, List, [], ◌∷◌, ◌++◌, length, take, drop, refl, sym, ap, ◌∙◌, arith, inl, inr, ◌⊎◌, subst, append_assoc}
-use Rattle.ds_base.specs.Texts.{text_of}
-use Rattle.std.proofs.lemmas.List.{append-nil, take-append-drop, take-take}
-use Rattle.ds_base.specs.declared.processors.Arch.{Arch}
+use Rattle.asm_files.proofs.Words.{Arch, Arm, EndsAt, HasPath, IsFirstBad, IsFront, IsListing, LinePlace, List, Path, Set, StatementLaws, [], ap}
+use Rattle.asm_files.proofs.Words.{append-nil, append_assoc, arith, drop, first_place, inl, inr, length, lines_of, listing_lines, one_start, refl}
+use Rattle.asm_files.proofs.Words.{start, subst, suc, sym, tail, take, take-append-drop, take-take, text_of, whole_lines, ℕ, ◌++◌, ◌+◌, ◌<◌, ◌^◌, ◌∙◌}
+use Rattle.asm_files.proofs.Words.{◌∷◌, ◌≡◌, ◌≢◌, ◌≤◌, ◌⊎◌}
 use Rattle.ds_base.specs.declared.processors.Arch.TheVariants.{V5}
-use Rattle.asm_text.specs.declared.sets.Set.{Set}
-use Rattle.asm_text.specs.declared.sets.Set.TheVariants.{Arm}
-use Rattle.asm_text.specs.Starts.{start}
-use Rattle.asm_text.specs.StatementLaws.{StatementLaws}
-use Rattle.asm_text.proofs.StartLaws.{one_start}
-use Rattle.asm_files.specs.declared.places.LinePlace.{LinePlace}
-use Rattle.asm_files.specs.Listings.{whole_lines, tail, listing_lines, lines_of, IsListing, IsFront, IsFirstBad}
-use Rattle.asm_files.specs.Reader.Lines.{first_place, Path, HasPath, EndsAt}
 use Rattle.asm_files.proofs.PathLaws.{path_of_lines, lines_of_path, path_split, path_once}
 use Rattle.asm_files.proofs.TextLaws.{lines_again, tail_again, text_again, listing_plain}
 

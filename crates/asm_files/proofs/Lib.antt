@@ -1,3 +1,4 @@
+mod Words
 pub mod PathLaws
 pub mod TextLaws
 pub mod FrontLaws

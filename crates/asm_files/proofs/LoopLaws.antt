@@ -1,13 +1,8 @@
 -- What reading one line more does to the lines read so far.
-use Rattle.std.proofs.Common.{ℕ, zero, suc, ◌≡◌, ◌≢◌, ◌<◌, ◌≤◌, ◌+◌, ◌^◌, List, [], ◌∷◌, ◌++◌, length, take, drop, sym, ap, ◌∙◌, arith, inl, inr, subst, length-drop}
-use Rattle.std.proofs.lemmas.List.{take_all, drop-drop}
-use Rattle.ds_base.specs.declared.processors.Arch.{Arch}
-use Rattle.asm_text.specs.declared.sets.Set.{Set}
-use Rattle.asm_text.specs.StatementLaws.{StatementLaws}
+use Rattle.asm_files.proofs.Words.{Arch, EndsAt, Half, HasPath, Leads, LinePlace, List, Path, Set, StatementLaws, Word, [], ap, arith, drop}
+use Rattle.asm_files.proofs.Words.{drop-drop, inl, inr, length, length-drop, spelling_bytes, subst, suc, sym, take, take_all, zero, ℕ, ◌++◌, ◌+◌, ◌<◌}
+use Rattle.asm_files.proofs.Words.{◌^◌, ◌∙◌, ◌∷◌, ◌≡◌, ◌≢◌, ◌≤◌}
 use Rattle.arm_words.specs.declared.spellings.Spelling.{Spelling}
-use Rattle.arm_words.specs.declared.spellings.Spelling.TheVariants.{Word, Half}
-use Rattle.asm_files.specs.declared.places.LinePlace.{LinePlace}
-use Rattle.asm_files.specs.Reader.Lines.{spelling_bytes, Leads, Path, HasPath, EndsAt}
 use Rattle.asm_files.proofs.PathLaws.{path_split, path_once, path_more}
 
 -- the next of a list's lines

@@ -1,17 +1,9 @@
 -- Texts that pass through a page to a sink, one after the other.
-use Rattle.std.proofs.Common.{ℕ, ◌≡◌, ◌<◌, ◌≤◌, ◌+◌, ◌-◌, ◌%◌, ◌^◌, List, [], ◌∷◌, ◌++◌, length, map, get_or, take, drop, Bool, refl, sym, ap, ◌∙◌, subst, append_assoc, arith}
-use Rattle.ds_base.specs.Texts.{text_of}
-use Rattle.std.proofs.lemmas.List.{append-nil, take_all}
-use Rattle.ds_base.specs.declared.processors.Arch.{Arch}
-use Rattle.asm_text.specs.declared.sets.Set.{Set}
-use Rattle.asm_text.specs.declared.sets.Set.TheVariants.{Arm, Thumb}
-use Rattle.asm_text.specs.Listed.{listed}
-use Rattle.asm_text.specs.Starts.{raw_byte}
+use Rattle.asm_files.proofs.Words.{Arch, Arm, Bool, List, Passed, Passing, Set, Thumb, [], ap, append-nil, append_assoc, arith, arm_lines, drop}
+use Rattle.asm_files.proofs.Words.{get_or, half_from, length, lines_of, listed, map, raw_byte, refl, size, subst, sym, take, take_all, text_of}
+use Rattle.asm_files.proofs.Words.{thumb_lines, word_from, ℕ, ◌%◌, ◌++◌, ◌+◌, ◌-◌, ◌<◌, ◌^◌, ◌∙◌, ◌∷◌, ◌≡◌, ◌≤◌}
 use Rattle.ds_io.specs.Sinks.{Appended, AppendedFront}
 use Rattle.ds_io.proofs.SinkLemmas.{append_none, append_twice, front_after, front_of_more}
-use Rattle.asm_files.specs.Listings.{half_from, word_from, arm_lines, thumb_lines, lines_of}
-use Rattle.asm_files.specs.Reader.Lines.{size}
-use Rattle.asm_files.specs.Writer.Pages.{Passing, Passed}
 use Rattle.asm_files.proofs.PathLaws.{few_lines}
 
 -- the bytes of a page and of two texts, in two ways

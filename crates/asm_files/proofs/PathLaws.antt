@@ -1,18 +1,9 @@
 -- Lines after a listing's first one lead from place to place in one way, and do so exactly where they are an image's lines.
-use Rattle.std.proofs.Common.{ℕ, ◌≡◌, ◌<◌, ◌≤◌, ◌+◌, ◌/◌, ◌%◌, ◌^◌, List, [], ◌∷◌, ◌++◌, length, map, refl, sym, ap, ◌∙◌, arith, inl, inr, subst, append_assoc}
-use Rattle.std.proofs.lemmas.List.{append-nil}
-use Rattle.ds_base.specs.declared.processors.Arch.{Arch}
+use Rattle.asm_files.proofs.Words.{AllBytes, Arch, Arm, Half, HasPath, IsByteLine, IsStatement, Leads, LinePlace, List, Path, Set, StatementLaws}
+use Rattle.asm_files.proofs.Words.{Thumb, Word, [], ap, append-nil, append_assoc, arith, arm_lines, first_place, half_from, inl, inr, length}
+use Rattle.asm_files.proofs.Words.{lines_of, listed, map, one_byte, raw_byte, refl, size, spelling, spelling_bytes, subst, sym, thumb_lines}
+use Rattle.asm_files.proofs.Words.{word_from, ℕ, ◌%◌, ◌++◌, ◌+◌, ◌/◌, ◌<◌, ◌^◌, ◌∙◌, ◌∷◌, ◌≡◌, ◌≤◌}
 use Rattle.arm_words.specs.Spellings.{IsInRange}
-use Rattle.arm_words.specs.declared.spellings.Spelling.TheVariants.{Word, Half}
-use Rattle.asm_text.specs.declared.sets.Set.{Set}
-use Rattle.asm_text.specs.declared.sets.Set.TheVariants.{Arm, Thumb}
-use Rattle.asm_text.specs.Listed.{listed, spelling}
-use Rattle.asm_text.specs.Starts.{raw_byte}
-use Rattle.asm_text.specs.StatementLaws.{StatementLaws}
-use Rattle.asm_text.proofs.StartLaws.{one_byte}
-use Rattle.asm_files.specs.declared.places.LinePlace.{LinePlace}
-use Rattle.asm_files.specs.Listings.{half_from, word_from, arm_lines, thumb_lines, lines_of, AllBytes}
-use Rattle.asm_files.specs.Reader.Lines.{first_place, size, spelling_bytes, IsStatement, IsByteLine, Leads, Path, HasPath}
 
 -- a line leads to one place
 pub leads_once : StatementLaws → (arch : Arch) (set : Set) (from : LinePlace) (line b : List ℕ) (m : LinePlace) (c : List ℕ) (n : LinePlace) → from.at < 2 ^ 32 → Leads arch set from line b m → Leads arch set from line c n → (b ≡ c) × (m ≡ n)

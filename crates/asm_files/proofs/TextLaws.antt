@@ -1,15 +1,8 @@
 -- Texts and their lines.
-use Rattle.std.proofs.Common.{ℕ, ◌≡◌, ◌≢◌, Bool, true, false, List, [], ◌∷◌, ◌++◌, refl, sym, ap, ◌∙◌, arith, inl, inr, subst, append_assoc}
-use Rattle.ds_base.specs.Texts.{HasNoFeed, text_of}
-use Rattle.std.proofs.lemmas.List.{append-nil}
+use Rattle.asm_files.proofs.Words.{AllBytes, Arch, Bool, HasNoFeed, Leads, LinePlace, List, Path, Set, StatementLaws, [], ap, append-nil}
+use Rattle.asm_files.proofs.Words.{append_assoc, arith, byte_plain, false, first_place, inl, inr, lines_in, lines_of, listing_lines, refl}
+use Rattle.asm_files.proofs.Words.{start_plain, subst, sym, tail, tail_in, text_of, true, whole_lines, ℕ, ◌++◌, ◌∙◌, ◌∷◌, ◌≡◌, ◌≢◌}
 use Rattle.std.specs.Prelude.{◌==◌, if◌then◌else◌}
-use Rattle.ds_base.specs.declared.processors.Arch.{Arch}
-use Rattle.asm_text.specs.declared.sets.Set.{Set}
-use Rattle.asm_text.specs.StatementLaws.{StatementLaws}
-use Rattle.asm_text.proofs.StartLaws.{byte_plain, start_plain}
-use Rattle.asm_files.specs.declared.places.LinePlace.{LinePlace}
-use Rattle.asm_files.specs.Listings.{lines_in, tail_in, whole_lines, tail, listing_lines, lines_of, AllBytes}
-use Rattle.asm_files.specs.Reader.Lines.{first_place, Leads, Path}
 use Rattle.asm_files.proofs.PathLaws.{path_of_lines}
 
 abbrev pub AllPlain : List (List ℕ) → Type 0

@@ -1,6 +1,4 @@
-use Rattle.std.proofs.Common.{ℕ, List, ◌∷◌, ◌+◌, drop, sym, ap, subst, ◌∙◌}
-use Rattle.std.proofs.lemmas.Result.{err_from_is_err_and}
-use Rattle.asm_files.specs.Listings.{whole_lines, IsFirstBad}
+use Rattle.asm_files.proofs.Words.{IsFirstBad, List, ap, drop, err_from_is_err_and, subst, sym, whole_lines, ℕ, ◌+◌, ◌∙◌, ◌∷◌}
 use Rattle.asm_files.proofs.FrontLaws.{bad_start, bad_later, listing_of_path}
 use Rattle.asm_files.proofs.reading.assemble.Goals as goal
 

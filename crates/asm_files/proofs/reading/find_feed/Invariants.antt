@@ -1,5 +1,4 @@
-use Rattle.std.proofs.Common.{◌≡◌, [], take, drop}
-use Rattle.asm_files.specs.Listings.{lines_in, tail_in}
+use Rattle.asm_files.proofs.Words.{[], drop, lines_in, tail_in, take, ◌≡◌}
 use Rattle.asm_files.proofs.reading.find_feed.Given as goal
 
 abbrev pub invariant-loop-i : goal.invariant-loop-i

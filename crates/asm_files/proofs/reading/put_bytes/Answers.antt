@@ -1,4 +1,4 @@
-use Rattle.std.proofs.Common.{arith, ◌+◌, ◌-◌, length}
+use Rattle.asm_files.proofs.Words.{arith, length, ◌+◌, ◌-◌}
 use Rattle.std.proofs.lemmas.Slice.{drop-put_mid}
 use Rattle.asm_files.proofs.reading.put_bytes.Goals as goal
 

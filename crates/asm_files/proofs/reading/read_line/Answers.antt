@@ -1,5 +1,4 @@
-use Rattle.std.proofs.Common.{ℕ, List, ◌≤◌, length, arith, subst, sym}
-use Rattle.asm_text.specs.Listed.{number_in}
+use Rattle.asm_files.proofs.Words.{List, arith, length, number_in, subst, sym, ℕ, ◌≤◌}
 use Rattle.asm_files.proofs.LoopLaws.{four_at_most}
 use Rattle.asm_files.proofs.reading.read_line.Goals as goal
 

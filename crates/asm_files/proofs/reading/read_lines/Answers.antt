@@ -1,7 +1,5 @@
-use Rattle.std.proofs.Common.{ℕ, List, [], ◌∷◌, ◌++◌, ◌≡◌, ◌≢◌, ◌≤◌, ◌+◌, ◌-◌, length, take, drop, arith, refl, sym, ap, subst, ◌∙◌, length-drop, length-take}
-use Rattle.std.proofs.lemmas.List.{take_rest, drop-drop}
-use Rattle.asm_files.specs.Reader.Lines.{first_place, Path, piece_bytes}
-use Rattle.asm_files.specs.Listings.{whole_lines, tail}
+use Rattle.asm_files.proofs.Words.{List, Path, [], ap, arith, drop, drop-drop, first_place, length, length-drop, length-take, piece_bytes, refl}
+use Rattle.asm_files.proofs.Words.{subst, sym, tail, take, take_rest, whole_lines, ℕ, ◌++◌, ◌+◌, ◌-◌, ◌∙◌, ◌∷◌, ◌≡◌, ◌≢◌, ◌≤◌}
 use Rattle.asm_files.proofs.LoopLaws.{stops, ends, whole, goes_on, next_of, kept_on}
 use Rattle.asm_files.proofs.reading.read_lines.Goals as goal
 

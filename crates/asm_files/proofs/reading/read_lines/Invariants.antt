@@ -1,6 +1,4 @@
-use Rattle.std.proofs.Common.{◌≡◌, ◌≤◌, ◌+◌, ◌-◌, length, take, drop}
-use Rattle.asm_files.specs.Reader.Lines.{first_place, Path}
-use Rattle.asm_files.specs.Listings.{tail, whole_lines}
+use Rattle.asm_files.proofs.Words.{Path, drop, first_place, length, tail, take, whole_lines, ◌+◌, ◌-◌, ◌≡◌, ◌≤◌}
 use Rattle.asm_files.proofs.reading.read_lines.Given as goal
 
 abbrev pub invariant-loop-end : goal.invariant-loop-end

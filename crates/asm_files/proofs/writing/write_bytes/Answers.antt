@@ -1,5 +1,4 @@
-use Rattle.std.proofs.Common.{arith}
-use Rattle.std.proofs.lemmas.Result.{err_from_is_err_and}
+use Rattle.asm_files.proofs.Words.{arith, err_from_is_err_and}
 use Rattle.asm_files.proofs.PageLaws.{byte_step, then_passed, then_failed}
 use Rattle.asm_files.proofs.writing.write_bytes.Goals as goal
 

@@ -1,7 +1,4 @@
-use Rattle.std.proofs.Common.{◌≤◌, length, map}
-use Rattle.ds_base.specs.Texts.{text_of}
-use Rattle.asm_text.specs.Starts.{raw_byte}
-use Rattle.asm_files.specs.Writer.Pages.{Passing}
+use Rattle.asm_files.proofs.Words.{Passing, length, map, raw_byte, text_of, ◌≤◌}
 use Rattle.asm_files.proofs.writing.write_bytes.Given as goal
 
 abbrev pub invariant-loop-rest : goal.invariant-loop-rest

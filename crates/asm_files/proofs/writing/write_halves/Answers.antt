@@ -1,6 +1,4 @@
-use Rattle.std.proofs.Common.{arith}
-use Rattle.std.proofs.lemmas.Result.{err_from_is_err_and}
-use Rattle.asm_text.specs.declared.sets.Set.TheVariants.{Thumb}
+use Rattle.asm_files.proofs.Words.{Thumb, arith, err_from_is_err_and}
 use Rattle.asm_files.proofs.PageLaws.{half_step, left_step, then_passed, then_failed}
 use Rattle.asm_files.proofs.writing.write_halves.Goals as goal
 

@@ -1,7 +1,4 @@
-use Rattle.std.proofs.Common.{◌≤◌, length}
-use Rattle.ds_base.specs.Texts.{text_of}
-use Rattle.asm_files.specs.Listings.{thumb_lines}
-use Rattle.asm_files.specs.Writer.Pages.{Passing}
+use Rattle.asm_files.proofs.Words.{Passing, length, text_of, thumb_lines, ◌≤◌}
 use Rattle.asm_files.proofs.writing.write_halves.Given as goal
 
 abbrev pub invariant-loop-rest : goal.invariant-loop-rest

@@ -1,8 +1,4 @@
-use Rattle.std.proofs.Common.{[], sym}
-use Rattle.std.proofs.lemmas.List.{append-nil}
-use Rattle.std.proofs.lemmas.Result.{err_from_is_err_and}
-use Rattle.asm_text.specs.Starts.{start}
-use Rattle.asm_files.specs.Listings.{listing, lines_of}
+use Rattle.asm_files.proofs.Words.{[], append-nil, err_from_is_err_and, lines_of, listing, start, sym}
 use Rattle.asm_files.proofs.PageLaws.{start_step, none_passed, then_passed, then_failed, from_empty, last_passed, last_failed}
 use Rattle.asm_files.proofs.writing.write_listing.Goals as goal
 

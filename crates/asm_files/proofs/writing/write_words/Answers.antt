@@ -1,6 +1,4 @@
-use Rattle.std.proofs.Common.{arith}
-use Rattle.std.proofs.lemmas.Result.{err_from_is_err_and}
-use Rattle.asm_text.specs.declared.sets.Set.TheVariants.{Arm}
+use Rattle.asm_files.proofs.Words.{Arm, arith, err_from_is_err_and}
 use Rattle.asm_files.proofs.PageLaws.{word_step, left_step, then_passed, then_failed}
 use Rattle.asm_files.proofs.writing.write_words.Goals as goal
 

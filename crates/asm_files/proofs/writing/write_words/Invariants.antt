@@ -1,7 +1,4 @@
-use Rattle.std.proofs.Common.{◌≤◌, length}
-use Rattle.ds_base.specs.Texts.{text_of}
-use Rattle.asm_files.specs.Listings.{arm_lines}
-use Rattle.asm_files.specs.Writer.Pages.{Passing}
+use Rattle.asm_files.proofs.Words.{Passing, arm_lines, length, text_of, ◌≤◌}
 use Rattle.asm_files.proofs.writing.write_words.Given as goal
 
 abbrev pub invariant-loop-rest : goal.invariant-loop-rest

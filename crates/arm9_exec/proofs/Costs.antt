@@ -1,16 +1,11 @@
+use Rattle.arm9_exec.proofs.Words.{Mcr, Moved, Outcome9, RegisterState, V5, holds, register}
 use Rattle.std.proofs.Common.{ℕ, ◌≡◌, Bool, true, false, if◌then◌else◌, refl, arith}
-use Rattle.ds_base.specs.declared.processors.Arch.TheVariants.{V5}
-use Rattle.arm_core.specs.Conditions.{holds}
 use Rattle.arm_core.specs.Meanings.{skipped}
-use Rattle.arm_core.specs.Registers.{RegisterState, register}
 use Rattle.arm_exec.specs.Costs.{CostsSome}
 use Rattle.arm_exec.proofs.Costs.{some_cost}
 use Rattle.cp15_tcm.specs.Registers.{Cp15State, Cp15Register, write_answer}
-use Rattle.cp15_tcm.specs.declared.answers.Mcr.{Mcr}
 use Rattle.cp15_tcm.specs.declared.answers.Mcr.TheVariants as mcr
-use Rattle.arm9_exec.specs.Arm9.{Outcome9}
 use Rattle.arm9_exec.specs.Coprocessors.{carried_over, moved_if, register_moved, written_by}
-use Rattle.arm9_exec.specs.declared.coprocessors.Moved.{Moved}
 
 -- Every step of ARM9 costs a clock at least.
 

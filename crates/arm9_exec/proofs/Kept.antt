@@ -1,25 +1,17 @@
+use Rattle.arm9_exec.proofs.Words.{FetchOutcome, Mcr, MemoryMachine, Moved, RegisterState, V5, arm9, carried_out, enters, executed_or_moved}
+use Rattle.arm9_exec.proofs.Words.{executed_word, fetched, holds, interrupt_meaning, register, step9_of, step_waits}
 use Rattle.std.proofs.Common.{ℕ, ◌≡◌, ◌&&◌, not, Bool, true, false, if◌then◌else◌, Option, Some, None, refl}
-use Rattle.ds_base.specs.Accesses.{MemoryMachine}
 use Rattle.ds_base.specs.Bits.{bit}
 use Rattle.ds_base.specs.declared.left_out.LeftKind.TheVariants.{BigEndian}
-use Rattle.ds_base.specs.declared.processors.Arch.TheVariants.{V5}
-use Rattle.arm_core.specs.Conditions.{holds}
-use Rattle.arm_core.specs.Effects.{carried_out}
-use Rattle.arm_core.specs.Exceptions.{interrupt_meaning}
-use Rattle.arm_core.specs.Registers.{RegisterState, register}
-use Rattle.arm_core.specs.Steps.{FetchOutcome, enters, executed_word, fetched}
 use Rattle.arm_core.specs.declared.outcomes.Stepped as stepped
 use Rattle.arm_core.specs.declared.outcomes.Stepped.TheVariants.{Cost, Halted, Left}
 use Rattle.arm_exec.specs.Stopped.{KeepsWhereStopped}
 use Rattle.arm_exec.proofs.Kept.{carried_keeps, word_keeps}
 use Rattle.cp15_tcm.specs.Registers.{Cp15State, Cp15Register, vectors_of, write_answer}
 use Rattle.cp15_tcm.specs.Registers.Cp15Register.{Constant, Control, DtcmRegion, ItcmRegion, WaitForInterrupt, Other}
-use Rattle.cp15_tcm.specs.declared.answers.Mcr.{Mcr}
 use Rattle.cp15_tcm.specs.declared.answers.Mcr.TheVariants as mcr
-use Rattle.arm9_exec.specs.Arm9.{arm9, executed_or_moved, step9_of, step_waits}
 use Rattle.arm9_exec.specs.Coprocessors.{carried_over, is_wait, move_of, moved_if, register_moved, waits, written, written_by}
 use Rattle.arm9_exec.specs.Stopped.{KeepsBothWhereStopped, ends_halted}
-use Rattle.arm9_exec.specs.declared.coprocessors.Moved.{Moved}
 
 -- Where a step needs what is left out, and where it halts.
 

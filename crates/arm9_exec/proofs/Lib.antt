@@ -1,3 +1,4 @@
+mod Words
 pub mod Kept
 pub mod Costs
 pub mod Statuses

@@ -1,29 +1,17 @@
-use Rattle.std.proofs.Common.{ℕ, ◌≡◌, ◌+◌, ◌*◌, ◌/◌, ◌%◌, ◌^◌, ◌<◌, ◌≤◌, ◌==◌, ◌&&◌, bit_and, bit_or, Bool, true, false, if◌then◌else◌, List, [], ◌∷◌, Option, Some, None, refl, arith}
+use Rattle.arm9_exec.proofs.Words.{FetchOutcome, Mcr, MemoryMachine, Moved, Outcome9, RegisterState, V5, arm9, beside, carried_out, enters}
+use Rattle.arm9_exec.proofs.Words.{executed_or_moved, executed_word, fetched, holds, interrupt_meaning, next, put, register, step9_of}
+use Rattle.std.proofs.Common.{ℕ, ◌≡◌, ◌+◌, ◌*◌, ◌/◌, ◌%◌, ◌^◌, ◌<◌, ◌==◌, ◌&&◌, bit_and, Bool, true, false, if◌then◌else◌, List, [], ◌∷◌, Option, Some, None, refl, arith}
 use Rattle.std.proofs.lemmas.Nat.{and_le_r, or_of_32}
-use Rattle.ds_base.specs.Accesses.{MemoryMachine}
-use Rattle.ds_base.specs.declared.left_out.Stop.{Stop}
-use Rattle.ds_base.specs.declared.processors.Arch.TheVariants.{V5}
-use Rattle.arm_words.specs.declared.instructions.Instr.{Instr}
-use Rattle.arm_core.specs.Conditions.{holds}
-use Rattle.arm_core.specs.Effects.{carried_out}
-use Rattle.arm_core.specs.Exceptions.{interrupt_meaning}
-use Rattle.arm_core.specs.Meanings.{skipped}
-use Rattle.arm_core.specs.Registers.{RegisterState, next, put, register}
-use Rattle.arm_core.specs.Steps.{FetchOutcome, enters, executed_word, fetched}
 use Rattle.arm_core.specs.StatusLaws.{HasStatuses}
 use Rattle.arm_exec.proofs.StatusBits.{flags_status}
 use Rattle.arm_exec.proofs.StatusKinds.{AllowsSome}
-use Rattle.arm_exec.proofs.StatusMeanings.{skipped_keeps}
 use Rattle.arm_exec.proofs.StatusMoves.{next_has, one_of, put_has}
 use Rattle.arm_exec.proofs.StatusSteps.{entry_has, fetched_allows, word_has}
 use Rattle.cp15_tcm.specs.Registers.{Cp15State, Cp15Register, CodeRow, control_mask, control_ones, dtcm_mask, itcm_mask, register_by, register_of, register_read, register_written, registers, vectors_of, write_answer}
 use Rattle.cp15_tcm.specs.Registers.Cp15Register.{Constant, Control, DtcmRegion, ItcmRegion, WaitForInterrupt, Other}
-use Rattle.cp15_tcm.specs.declared.answers.Mcr.{Mcr}
 use Rattle.cp15_tcm.specs.declared.answers.Mcr.TheVariants as mcr
-use Rattle.arm9_exec.specs.Arm9.{Outcome9, arm9, beside, executed_or_moved, step9_of}
 use Rattle.arm9_exec.specs.Coprocessors.{MoveOutcome, carried_over, move_of, moved_if, read_into, register_moved, written_by}
 use Rattle.arm9_exec.specs.Statuses.{HasNineStatuses}
-use Rattle.arm9_exec.specs.declared.coprocessors.Moved.{Moved}
 
 -- Every step of ARM9 leaves numbers that status registers can have, and words in CP15.
 

@@ -1,11 +1,7 @@
-use Rattle.std.proofs.Common.{ℕ, List}
-use Rattle.std.specs.Prelude.{Option, Some, None}
-use Rattle.ds_base.specs.Bits.{bit}
-use Rattle.vram_banks.specs.Cells.{Banks}
-use Rattle.vram_banks.specs.Colours.{HasForm, opaque_pixel, palette_colour}
+use Rattle.bg_ext.proofs.Words.{Banks, ExtLayer, HasForm, List, None, Option, Some, bit, byte_pixel, direct_pixel, ext_across, ext_pixel}
+use Rattle.bg_ext.proofs.Words.{ext_place_pixel, ext_point_pixel, half_pixel, has_halves, is_bitmap, opaque_pixel, palette_colour, ℕ}
 use Rattle.vram_banks.proofs.FormLemmas.{choice_form, zero_form, opaque_form, indexed_form}
-use Rattle.bg_ext.specs.declared.layers.ExtLayer.{ExtLayer}
-use Rattle.bg_ext.specs.ExtendedPixels.{is_bitmap, has_halves, direct_pixel, half_pixel, byte_pixel, ext_entry, entry_colour, entry_pixel, ext_point_pixel, ext_place_pixel, ext_across, ext_down, ext_pixel}
+use Rattle.bg_ext.specs.ExtendedPixels.{ext_entry, entry_colour, entry_pixel, ext_down}
 
 -- A pixel has bit 15 set, or is 0.
 

@@ -1,8 +1,5 @@
-use Rattle.std.proofs.Common.{ℕ, ◌≡◌, ◌<◌, ◌+◌, ◌-◌, ◌*◌, ◌%◌, List, get_or, ap, sym, ◌∙◌, arith}
+use Rattle.bg_ext.proofs.Words.{Banks, Half, List, Space, ap, arith, get_or, sym, vram_byte, vram_value, ℕ, ◌%◌, ◌*◌, ◌+◌, ◌-◌, ◌<◌, ◌∙◌, ◌≡◌}
 use Rattle.ds_base.specs.Numbers.{number_at}
-use Rattle.ds_base.specs.declared.memories.Space.{Space}
-use Rattle.ds_base.specs.declared.memories.Width.TheVariants.{Half}
-use Rattle.vram_banks.specs.Cells.{Banks, vram_byte, vram_value}
 
 -- a half among bytes that were read from an even address on
 pub half_read : (v : Banks) (space : Space) (at k n : ℕ) (bytes : List ℕ) → at % 2 ≡ 0 → 2 * k + 1 < n →

@@ -1,12 +1,9 @@
-use Rattle.std.proofs.Common.{ℕ, List, ◌≡◌, ap, refl, sym, ◌∙◌}
-use Rattle.std.specs.Prelude.{ℤ, pos, ◌+ℤ◌, ◌*ℤ◌, Option, Some, None}
+use Rattle.bg_ext.proofs.Words.{Banks, ExtLayer, List, None, Option, Some, ap, bit, ext_across, ext_pixel, ext_place_pixel, refl, sym, ℕ, ◌∙◌, ◌≡◌}
+use Rattle.std.specs.Prelude.{ℤ, pos, ◌+ℤ◌, ◌*ℤ◌}
 use Rattle.std.specs.Int.{int_shr}
 use Rattle.std.proofs.Math.IntN.{zero-*ℤ}
-use Rattle.ds_base.specs.Bits.{bit}
-use Rattle.vram_banks.specs.Cells.{Banks}
 use Rattle.vram_banks.specs.Points.{affine_coordinate, place_within}
-use Rattle.bg_ext.specs.declared.layers.ExtLayer.{ExtLayer}
-use Rattle.bg_ext.specs.ExtendedPixels.{ext_height, ext_across, ext_down, ext_place_pixel, ext_pixel}
+use Rattle.bg_ext.specs.ExtendedPixels.{ext_height, ext_down}
 
 -- a coordinate that no step changes is one along the whole line
 pub level_coordinate : (first step : ℤ) (x : ℕ) → step ≡ pos 0 → affine_coordinate first step x ≡ affine_coordinate first step 0

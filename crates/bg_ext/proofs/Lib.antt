@@ -1,3 +1,4 @@
+mod Words
 pub mod FormLemmas
 pub mod HalfLemmas
 pub mod LevelLemmas

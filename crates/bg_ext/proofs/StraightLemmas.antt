@@ -1,11 +1,7 @@
-use Rattle.std.proofs.Common.{ℕ, List, true, false, ◌≡◌, ◌+◌, ◌*◌, ap, refl, sym, ◌∙◌, arith}
-use Rattle.std.specs.Prelude.{Option, Some}
-use Rattle.ds_base.specs.declared.memories.Width.TheVariants.{Half}
-use Rattle.vram_banks.specs.Cells.{Banks, vram_byte, vram_value}
+use Rattle.bg_ext.proofs.Words.{Banks, ExtLayer, Half, List, Option, Some, ap, arith, byte_pixel, direct_pixel, ext_across, ext_place_pixel}
+use Rattle.bg_ext.proofs.Words.{ext_point_pixel, false, half_pixel, has_halves, indexed_pixel, is_bitmap, palette_colour, refl, sym, true, vram_byte}
+use Rattle.bg_ext.proofs.Words.{vram_value, ℕ, ◌*◌, ◌+◌, ◌∙◌, ◌≡◌}
 use Rattle.vram_banks.specs.Bases.{background_space}
-use Rattle.vram_banks.specs.Colours.{indexed_pixel, palette_colour}
-use Rattle.bg_ext.specs.declared.layers.ExtLayer.{ExtLayer}
-use Rattle.bg_ext.specs.ExtendedPixels.{is_bitmap, has_halves, ext_across, direct_pixel, half_pixel, byte_pixel, ext_point_pixel, ext_place_pixel}
 use Rattle.bg_ext.specs.rows.Lines.{bytes_start, halves_start}
 
 -- A part of a line that is shown as it lies.

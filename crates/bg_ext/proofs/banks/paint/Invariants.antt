@@ -1,8 +1,5 @@
-use Rattle.std.proofs.Common.{ℕ, ◌≡◌, ◌<◌, ◌+◌, ◌*◌, get_or}
+use Rattle.bg_ext.proofs.Words.{Half, get_or, opaque_pixel, vram_value, ℕ, ◌*◌, ◌+◌, ◌<◌, ◌≡◌}
 use Rattle.ds_base.specs.declared.memories.Space.TheVariants.{Lcdc}
-use Rattle.ds_base.specs.declared.memories.Width.TheVariants.{Half}
-use Rattle.vram_banks.specs.Colours.{opaque_pixel}
-use Rattle.vram_banks.specs.Cells.{vram_value}
 use Rattle.bg_ext.proofs.banks.paint.Given as goal
 
 abbrev pub invariant-loop-x : goal.invariant-loop-x

@@ -1,4 +1,4 @@
-use Rattle.std.proofs.Common.{ℕ, ◌≡◌, ◌<◌, get_or}
+use Rattle.bg_ext.proofs.Words.{get_or, ℕ, ◌<◌, ◌≡◌}
 use Rattle.bg_ext.proofs.extended.clear.Given as goal
 
 abbrev pub invariant-loop-x : goal.invariant-loop-x

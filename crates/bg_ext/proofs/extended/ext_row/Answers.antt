@@ -1,5 +1,4 @@
-use Rattle.std.proofs.Common.{sym, subst}
-use Rattle.vram_banks.specs.Colours.{HasForm}
+use Rattle.bg_ext.proofs.Words.{HasForm, subst, sym}
 use Rattle.bg_ext.proofs.FormLemmas.{ext_form}
 use Rattle.bg_ext.proofs.extended.ext_row.Goals as goal
 

@@ -1,6 +1,4 @@
-use Rattle.std.proofs.Common.{◌∙◌}
-use Rattle.std.specs.Prelude.{Some, None}
-use Rattle.bg_ext.specs.ExtendedPixels.{ext_across}
+use Rattle.bg_ext.proofs.Words.{None, Some, ext_across, ◌∙◌}
 use Rattle.bg_ext.proofs.LevelLemmas.{level_pixel, level_clear}
 use Rattle.bg_ext.proofs.extended.level_row.Goals as goal
 

@@ -1,5 +1,4 @@
-use Rattle.std.proofs.Common.{ℕ, ◌≡◌, ◌<◌, get_or}
-use Rattle.bg_ext.specs.ExtendedPixels.{ext_pixel}
+use Rattle.bg_ext.proofs.Words.{ext_pixel, get_or, ℕ, ◌<◌, ◌≡◌}
 use Rattle.bg_ext.proofs.extended.turned_row.Given as goal
 
 abbrev pub invariant-loop-x : goal.invariant-loop-x

@@ -1,6 +1,4 @@
-use Rattle.std.proofs.Common.{ℕ, ◌≡◌, ◌<◌, get_or}
-use Rattle.std.specs.Prelude.{Some}
-use Rattle.bg_ext.specs.ExtendedPixels.{ext_across, ext_place_pixel}
+use Rattle.bg_ext.proofs.Words.{Some, ext_across, ext_place_pixel, get_or, ℕ, ◌<◌, ◌≡◌}
 use Rattle.bg_ext.proofs.lines.bytes_row.Given as goal
 
 abbrev pub invariant-loop-x : goal.invariant-loop-x

@@ -1,7 +1,4 @@
-use Rattle.std.proofs.Common.{ℕ, ◌+◌, ap, ◌∙◌, arith}
-use Rattle.ds_base.specs.declared.memories.Space.{Space}
-use Rattle.vram_banks.specs.Colours.{indexed_pixel, palette_colour}
-use Rattle.vram_banks.specs.Cells.{vram_byte}
+use Rattle.bg_ext.proofs.Words.{Space, ap, arith, indexed_pixel, palette_colour, vram_byte, ℕ, ◌+◌, ◌∙◌}
 use Rattle.bg_ext.proofs.StraightLemmas.{straight_byte}
 use Rattle.bg_ext.proofs.lines.straight_bytes.Goals as goal
 

@@ -1,5 +1,4 @@
-use Rattle.std.proofs.Common.{ℕ, ◌≡◌, ◌<◌, get_or}
-use Rattle.vram_banks.specs.Colours.{indexed_pixel, palette_colour}
+use Rattle.bg_ext.proofs.Words.{get_or, indexed_pixel, palette_colour, ℕ, ◌<◌, ◌≡◌}
 use Rattle.bg_ext.proofs.lines.straight_bytes.Given as goal
 
 abbrev pub invariant-loop-x : goal.invariant-loop-x

@@ -1,8 +1,4 @@
-use Rattle.std.proofs.Common.{ℕ, ◌+◌, ◌*◌, ap, ◌∙◌, arith}
-use Rattle.ds_base.specs.declared.memories.Space.{Space}
-use Rattle.ds_base.specs.declared.memories.Width.TheVariants.{Half}
-use Rattle.vram_banks.specs.Cells.{vram_value}
-use Rattle.bg_ext.specs.ExtendedPixels.{direct_pixel}
+use Rattle.bg_ext.proofs.Words.{Half, Space, ap, arith, direct_pixel, vram_value, ℕ, ◌*◌, ◌+◌, ◌∙◌}
 use Rattle.bg_ext.proofs.StraightLemmas.{straight_half}
 use Rattle.bg_ext.proofs.lines.straight_halves.Goals as goal
 

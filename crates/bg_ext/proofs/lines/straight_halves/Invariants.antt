@@ -1,7 +1,4 @@
-use Rattle.std.proofs.Common.{ℕ, ◌≡◌, ◌<◌, ◌+◌, ◌*◌, get_or}
-use Rattle.ds_base.specs.declared.memories.Width.TheVariants.{Half}
-use Rattle.vram_banks.specs.Cells.{vram_value}
-use Rattle.bg_ext.specs.ExtendedPixels.{direct_pixel}
+use Rattle.bg_ext.proofs.Words.{Half, direct_pixel, get_or, vram_value, ℕ, ◌*◌, ◌+◌, ◌<◌, ◌≡◌}
 use Rattle.bg_ext.proofs.lines.straight_halves.Given as goal
 
 abbrev pub invariant-loop-x : goal.invariant-loop-x

@@ -1,4 +1,4 @@
-use Rattle.std.proofs.Common.{length, ◌∙◌}
+use Rattle.bg_ext.proofs.Words.{length, ◌∙◌}
 use Rattle.bg_ext.proofs.HalfLemmas.{half_read}
 use Rattle.bg_ext.proofs.pixels.half_among.Goals as goal
 

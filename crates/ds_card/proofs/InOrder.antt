@@ -1,20 +1,12 @@
+use Rattle.ds_card.proofs.Words.{Nine, Proc, Ready, Seven, Tick, Transfer, Width, aligned_down, block_words, came, data_port_at, was_read, wrote}
 use Rattle.std.proofs.Common.{ℕ, suc, ◌≡◌, ◌⊎◌, inl, inr, ◌<◌, ◌≤◌, ◌+◌, ◌==◌, Bool, true, false, true≢false, if◌then◌else◌, List, [], ◌∷◌, map, length, Option, Some, None, refl, sym, ◌∙◌, ap, subst, arith}
 use Rattle.std.specs.List.{range_with_len}
 use Rattle.std.specs.Prelude.{◌&&◌, is_some}
 use Rattle.std.proofs.lemmas.List.FromFn.{take-map-range_with_len}
-use Rattle.ds_base.specs.Numbers.{aligned_down}
-use Rattle.ds_base.specs.declared.memories.Width.{Width}
-use Rattle.ds_base.specs.declared.processors.Proc.{Proc}
-use Rattle.ds_base.specs.declared.processors.Proc.TheVariants.{Nine, Seven}
-use Rattle.ds_base.specs.declared.ticks.Tick.{Tick}
 use Rattle.ds_base.proofs.Choices.{equal, unequal}
-use Rattle.ds_card.specs.CardPorts.{block_words, data_port_at}
 use Rattle.ds_card.specs.Cards.{CardState, IsCard, IsUnderWay, transfer_begun, card_after_read, card_taken, card_word, card_written, next_word_after, is_busy, is_last_word, is_whole_word, ready_word, same_proc, taken_by}
 use Rattle.ds_card.specs.TransferLaws.{CardGoesOn, CardHappens, TransfersInOrder, and_taken, transfer_words}
-use Rattle.ds_card.specs.TransferLaws.CardHappens.{wrote, was_read, came}
 use Rattle.ds_card.specs.TransferLaws.CardGoesOn.{stays_so, goes_further}
-use Rattle.ds_card.specs.declared.cards.NextWord.TheVariants.{Ready}
-use Rattle.ds_card.specs.declared.cards.Transfer.{Transfer}
 
 -- The words of a transfer are taken in order, each once.
 

@@ -1,3 +1,4 @@
+mod Words
 pub mod Begins
 pub mod InOrder
 pub mod KeptBits

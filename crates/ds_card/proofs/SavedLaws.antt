@@ -1,20 +1,14 @@
+use Rattle.ds_card.proofs.Words.{Due, Nine, Proc, Ready, Seven, Transfer, aligned_down, block_words, came, number_at, was_read, words_of_size, wrote}
 use Rattle.std.proofs.Common.{rules, ℕ, zero, suc, ◌≡◌, ◌⊎◌, inl, inr, ◌<◌, ◌≤◌, ◌^◌, ◌==◌, ◌&&◌, ◌||◌, not, nat_lt, true, false, true≢false, List, slice_index_or, Option, Some, None, is_some, IfSome, refl, sym, ap, subst, arith}
 use Rattle.ds_base.proofs.Choices.{both, both_true, either, equal}
 use Rattle.ds_base.specs.Schedules.{due_number}
-use Rattle.ds_base.specs.declared.processors.Proc.{Proc}
-use Rattle.ds_base.specs.declared.processors.Proc.TheVariants.{Nine, Seven}
 use Rattle.ds_base.specs.Bits.{bits}
-use Rattle.ds_base.specs.Numbers.{aligned_down, number_at}
 use Rattle.ds_base.specs.declared.memories.Width.TheVariants.{Word}
 use Rattle.ds_card.proofs.InOrder.{Stands, StandsIn, one_follows}
-use Rattle.ds_card.specs.CardPorts.{block_words, words_of_size}
 use Rattle.ds_card.specs.Cards.{CardState, IsCard, IsUnderWay, card_due, card_starter, card_taken, card_word, is_starting, start_refusal, next_due, ready_word, is_known}
 use Rattle.ds_card.specs.Saved.{CardsAreSaved, IsCardAt, HasItsWord, card_format, card_due_by, due_where, keeps_romctrl, next_numbered, numbered_starter, starter_number, starts_by, taken_of, takes_by, transfer_numbered}
 use Rattle.ds_card.specs.TransferLaws.{CardHappens}
-use Rattle.ds_card.specs.TransferLaws.CardHappens.{wrote, was_read, came}
 use Rattle.ds_card.specs.declared.cards.NextWord.{NextWord}
-use Rattle.ds_card.specs.declared.cards.NextWord.TheVariants.{Due, Ready}
-use Rattle.ds_card.specs.declared.cards.Transfer.{Transfer}
 use Rattle.ds_state.proofs.Exact.{one_spelling, round_trips}
 use Rattle.ds_state.proofs.Soon.{soon_fits}
 use Rattle.ds_state.specs.Formats.{soon}

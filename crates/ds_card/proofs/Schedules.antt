@@ -1,16 +1,10 @@
+use Rattle.ds_card.proofs.Words.{Nine, Proc, Ready, Seven, Tick, Transfer, Width, aligned_down, block_words, data_port_at}
 use Rattle.std.specs.Prelude.{◌==◌, ◌&&◌, not, is_some}
 use Rattle.std.proofs.Common.{ℕ, ◌≡◌, ◌+◌, inl, inr, Bool, true, false, true≢false, if◌then◌else◌, List, Option, Some, None, refl, sym, ◌∙◌, ap, subst, arith}
 use Rattle.ds_base.proofs.Choices.{both, either, either_by, if_false, if_true, not_true, true_or_false}
-use Rattle.ds_base.specs.Numbers.{aligned_down}
 use Rattle.ds_base.specs.Schedules.{IsLater, Reschedules}
-use Rattle.ds_base.specs.declared.memories.Width.{Width}
-use Rattle.ds_base.specs.declared.processors.Proc.{Proc}
-use Rattle.ds_base.specs.declared.processors.Proc.TheVariants.{Nine, Seven}
-use Rattle.ds_base.specs.declared.ticks.Tick.{Tick}
-use Rattle.ds_card.specs.CardPorts.{data_port_at, block_words, overwritten, romctrl_at, starts_at}
+use Rattle.ds_card.specs.CardPorts.{overwritten, romctrl_at, starts_at}
 use Rattle.ds_card.specs.Cards.{CardState, card_after_event, card_after_read, card_due, card_due_for, card_starter, card_taken, card_word, card_written, due_if_started, is_busy, is_last_word, is_starting, is_whole_word, next_due, next_word_after, ports_written, ready_word, same_proc, start_refusal, taken_by, transfer_begun, word_for}
-use Rattle.ds_card.specs.declared.cards.NextWord.TheVariants.{Ready}
-use Rattle.ds_card.specs.declared.cards.Transfer.{Transfer}
 use Rattle.std.proofs.lemmas.Option.{none-some, same_Some}
 
 -- When the card's event comes: what happens leaves that as it was, or makes it later; and what one processor does leaves the transfer that the other

@@ -1,10 +1,5 @@
-use Rattle.std.proofs.Common.{ℕ, ◌≡◌, List, true, refl}
-use Rattle.std.specs.Prelude.{Some}
-use Rattle.ds_base.specs.Bits.{bit}
-use Rattle.vram_banks.specs.Cells.{Banks}
+use Rattle.bg2d.proofs.Words.{AffineLayer, Banks, List, Some, affine_pixel, affine_point_pixel, affine_size, bit, refl, true, ℕ, ◌≡◌}
 use Rattle.vram_banks.specs.Points.{affine_coordinate, place_within}
-use Rattle.bg2d.specs.declared.layers.AffineLayer.{AffineLayer}
-use Rattle.bg2d.specs.AffinePixels.{affine_size, affine_point_pixel, affine_pixel}
 
 -- A background that wraps.
 

@@ -1,12 +1,7 @@
-use Rattle.std.proofs.Common.{ℕ, ◌+◌, ◌%◌, List}
-use Rattle.std.specs.Prelude.{Option, Some, None}
-use Rattle.vram_banks.specs.Cells.{Banks}
-use Rattle.vram_banks.specs.Colours.{palette_colour, HasForm}
+use Rattle.bg2d.proofs.Words.{AffineLayer, Banks, HasForm, List, None, Option, Some, TextLayer, affine_pixel, affine_place_pixel, affine_point_pixel}
+use Rattle.bg2d.proofs.Words.{palette_colour, ℕ, ◌%◌, ◌+◌}
 use Rattle.vram_banks.proofs.FormLemmas.{zero_form, indexed_form}
-use Rattle.bg2d.specs.declared.layers.TextLayer.{TextLayer}
-use Rattle.bg2d.specs.declared.layers.AffineLayer.{AffineLayer}
 use Rattle.bg2d.specs.TextPixels.{text_width, text_height, text_entry, text_colour, text_pixel}
-use Rattle.bg2d.specs.AffinePixels.{affine_point_pixel, affine_place_pixel, affine_pixel}
 
 -- A pixel has bit 15 set, or is 0.
 

@@ -1,3 +1,4 @@
+mod Words
 pub mod AffineLemmas
 pub mod FormLemmas
 pub mod TilingLemmas

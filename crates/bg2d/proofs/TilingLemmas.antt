@@ -1,20 +1,17 @@
-use Rattle.std.proofs.Common.{ℕ, Bool, true, false, ◌≡◌, ◌<◌, ◌+◌, ◌-◌, ◌*◌, ◌/◌, ◌%◌, ◌^◌, ◌==◌, ◌⊎◌, inl, inr, List, get_or, drop, refl, sym, ◌∙◌, ap, subst, arith}
+use Rattle.bg2d.proofs.Words.{AreEntries, ArePainted, Banks, Bool, IsKept, List, TextLayer, ap, arith, background_palette_space, background_space}
+use Rattle.bg2d.proofs.Words.{bit, bits, flipped, get_or, if◌then◌else◌, indexed_pixel, map_base, nibble_at, palette_colour, refl, subst, sym}
+use Rattle.bg2d.proofs.Words.{text_base, tile_offset, tiled_pixel, true, vram_byte, ℕ, ◌%◌, ◌&&◌, ◌*◌, ◌+◌, ◌/◌, ◌<◌, ◌^◌, ◌∙◌, ◌≡◌}
+use Rattle.std.proofs.Common.{false, ◌-◌, ◌==◌, ◌⊎◌, inl, inr, drop}
 use Rattle.std.specs.List.{slice_range}
 use Rattle.std.proofs.lemmas.List.{get_or-take, get_or-drop}
-use Rattle.std.specs.Prelude.{if◌then◌else◌, ◌&&◌}
-use Rattle.ds_base.specs.Bits.{bits, bit}
 use Rattle.ds_base.specs.Numbers.{number_at}
 use Rattle.ds_base.specs.declared.memories.Width.TheVariants.{Half}
 use Rattle.ds_base.proofs.Choices.{both}
-use Rattle.vram_banks.specs.Cells.{Banks, vram_byte}
-use Rattle.bg2d.specs.declared.layers.TextLayer.{TextLayer}
 use Rattle.bg2d.specs.declared.texts.KeptPalette.{KeptPalette}
-use Rattle.vram_banks.specs.Bases.{background_space, background_palette_space, map_base}
-use Rattle.vram_banks.specs.Colours.{indexed_pixel, palette_colour, extended_colour, table_pixel}
+use Rattle.vram_banks.specs.Colours.{extended_colour, table_pixel}
 use Rattle.vram_banks.proofs.PaletteLemmas.{read_pixel, tabled_16, tabled_256}
-use Rattle.vram_banks.specs.Tiles.{nibble_at, flipped}
 use Rattle.bg2d.specs.TextPixels.{text_width, text_height, has_256, text_entry, text_index, text_colour, text_entry_pixel, text_pixel, palette_slot}
-use Rattle.bg2d.specs.rows.Tiling.{block_line, is_extended, AreBlockLines, IsBlockLine, IsKept, text_base, tile_offset, tiled_pixel, AreEntries, AreIndices, ArePainted, AreTiles}
+use Rattle.bg2d.specs.rows.Tiling.{block_line, is_extended, AreBlockLines, IsBlockLine, AreIndices, AreTiles}
 
 -- ---- entries from bytes
 

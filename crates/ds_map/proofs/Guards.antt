@@ -1,14 +1,10 @@
-use Rattle.ds_map.proofs.Words.{ℕ, ◌≡◌, nat_lt, true, false, None, refl, ◌∙◌, ap, Width, Proc, Nine, Seven, Tick, tcm_of, Tcm, place_of, Place}
-use Rattle.ds_map.proofs.Words.{GxState, IoState, channel_moved, map_refusal, map_written, is_guarded, MapState, unit_read, unit_taken, unit_waits}
-use Rattle.ds_map.proofs.Words.{NineReach}
-use Rattle.ds_base.proofs.Choices.{if_false}
+use Rattle.ds_map.proofs.Words.{DmaUnit, GxState, IoState, MapState, Nine, NineReach, None, Place, Proc, Seven, Tcm, Tick, Width, ap, channel_moved}
+use Rattle.ds_map.proofs.Words.{false, if_false, map_refusal, map_written, nat_lt, nine_memory, place_of, refl, tcm_of, tcm_refusal, tcm_written}
+use Rattle.ds_map.proofs.Words.{true, unit_read, unit_taken, unit_waits, waiting_entries, ℕ, ◌∙◌, ◌≡◌}
+use Rattle.ds_map.specs.Guards.{is_guarded, guarded_memory, map_guarded, map_guarded_refusal, meets_guard, tcm_guarded, tcm_guarded_refusal}
 use Rattle.cp15_tcm.specs.declared.answers.Tcm.TheVariants.{Itcm, Dtcm, Past}
-use Rattle.ds_dma.specs.declared.channels.Unit.{Unit as DmaUnit}
 use Rattle.ds_places.specs.declared.kinds.Place.TheVariants as place
-use Rattle.gx_fifo.specs.GxStates.{waiting_entries}
 use Rattle.ds_ports.specs.Guards.{is_overfull}
-use Rattle.ds_map.specs.Guards.{guarded_memory, map_guarded, map_guarded_refusal, meets_guard, tcm_guarded, tcm_guarded_refusal}
-use Rattle.ds_map.specs.Views.{nine_memory, tcm_refusal, tcm_written}
 use Rattle.ds_map.proofs.Later.{map_read_leaves}
 
 -- Where writes meet no guard.

@@ -1,16 +1,12 @@
-use Rattle.ds_map.proofs.Words.{ℕ, ◌≡◌, ◌<◌, ◌+◌, ◌-◌, ◌/◌, ◌==◌, ◌&&◌, nat_le, Bool, true, false, if◌then◌else◌, [], ◌∷◌, Option, Some, None, refl}
-use Rattle.ds_map.proofs.Words.{◌∙◌, arith, List, either, memory_size, aligned_down, width_bytes, Stop, Main, Shared, Palette, Vram, Oam, Width, Byte}
-use Rattle.ds_map.proofs.Words.{Half, Word, Proc, Nine, Seven, Tick, BootRom, Cells, Empty, Ports, Video, place_at, place_by, place_of}
-use Rattle.ds_map.proofs.Words.{shared_for_nine, Place, Banks, Cell, Nothing, Port, Rom, IoState, channel_moved, port_refusal, port_written}
-use Rattle.ds_map.proofs.Words.{unless_stopped, is_control_word, is_geometry_offset, GxState, vram_written, after_read_at, is_byte_of_nine}
-use Rattle.ds_map.proofs.Words.{map_fetched, map_read, map_refusal, map_value, map_written, takes_no_bytes, written_at, MapState, map_after_unit}
-use Rattle.ds_map.proofs.Words.{unit_moved, unit_read, unit_refusal, unit_taken, unit_waits, is_observed_port}
-use Rattle.ds_base.specs.declared.memories.Space.TheVariants.{ABg, BBg, AObj, BObj, Lcdc}
-use Rattle.ds_dma.specs.declared.channels.Unit.{Unit as DmaUnit}
-use Rattle.ds_places.specs.AddressTables.{region}
-use Rattle.ds_ports.specs.Io.{with_gx}
+use Rattle.ds_map.proofs.Words.{ABg, AObj, BBg, BObj, Banks, Bool, BootRom, Byte, Cell, Cells, DmaUnit, Empty, GxState, Half, IoState, Lcdc, List}
+use Rattle.ds_map.proofs.Words.{Main, MapState, Nine, None, Nothing, Oam, Option, Palette, Place, Port, Ports, Proc, Rom, Seven, Shared, Some, Stop}
+use Rattle.ds_map.proofs.Words.{Tick, Video, Vram, Width, Word, [], after_read_at, aligned_down, arith, channel_moved, either, false, if◌then◌else◌}
+use Rattle.ds_map.proofs.Words.{is_byte_of_nine, is_control_word, is_observed_port, map_after_unit, map_fetched, map_read, map_refusal, map_value}
+use Rattle.ds_map.proofs.Words.{map_written, memory_size, nat_le, place_at, place_by, place_of, port_refusal, port_written, refl, region}
+use Rattle.ds_map.proofs.Words.{shared_for_nine, takes_no_bytes, true, unit_moved, unit_read, unit_refusal, unit_taken, unit_waits, unless_stopped}
+use Rattle.ds_map.proofs.Words.{vram_written, width_bytes, with_gx, written_at, ℕ, ◌&&◌, ◌+◌, ◌-◌, ◌/◌, ◌<◌, ◌==◌, ◌∙◌, ◌∷◌, ◌≡◌}
+use Rattle.ds_ports.proofs.GxApart.{is_geometry_offset, IsApartFromGeometry, covers_apart, moved_apart, of_geometry, with_it}
 use Rattle.ds_ports.proofs.Arms.{ArmsNoMore, KeepsControls, arms_by, arms_kept, arms_then, finished_arms, keeps_by, keeps_same, read_dma, seven_write_dma, write_keeps}
-use Rattle.ds_ports.proofs.GxApart.{IsApartFromGeometry, covers_apart, moved_apart, of_geometry, with_it}
 use Rattle.ds_map.proofs.ObservedPorts.{no_control, no_geometry, observed_same}
 use Rattle.ds_map.proofs.Passed as passed
 use Rattle.ds_map.proofs.Passed.{IsPast, OfOthers, PlacePasses, fetch_passes, place_passes}

@@ -1,7 +1,6 @@
-use Rattle.ds_map.proofs.Words.{ℕ, Option, Some, None, refl, either, aligned_down, Stop, Vram, Width, Proc, Tick, place_of, Place, port_refusal}
-use Rattle.ds_map.proofs.Words.{port_written, unless_stopped, IoState, io_of, vram_written, is_byte_of_nine, after_read_at, map_read, map_written}
-use Rattle.ds_map.proofs.Words.{written_at, takes_no_bytes, MapState}
-use Rattle.std.specs.Prelude.{◌&&◌}
+use Rattle.ds_map.proofs.Words.{IoState, MapState, None, Option, Place, Proc, Some, Stop, Tick, Vram, Width, after_read_at, aligned_down, either}
+use Rattle.ds_map.proofs.Words.{io_of, is_byte_of_nine, map_read, map_written, place_of, port_refusal, port_written, refl, takes_no_bytes}
+use Rattle.ds_map.proofs.Words.{unless_stopped, vram_written, written_at, ℕ, ◌&&◌}
 use Rattle.ds_places.specs.declared.kinds.Place.TheVariants as place
 use Rattle.ds_ports.specs.HappeningLaws.{Goes, IsProcessorIo, HasOnlyLaterEvents}
 use Rattle.ds_ports.proofs.Later.{ReadLeaves, all_left, goes_nowhere, leaves_all, port_leaves, read_goes, write_goes}

@@ -1,15 +1,14 @@
-use Rattle.ds_map.proofs.Words.{ℕ, ◌≡◌, ◌<◌, ◌≤◌, ◌+◌, ◌-◌, ◌%◌, ◌^◌, ◌==◌, ◌&&◌, nat_le, nat_lt, Bool, true, false, true≢false, if◌then◌else◌, List}
-use Rattle.ds_map.proofs.Words.{[], ◌∷◌, length, None, refl, sym, ◌∙◌, ap, subst, arith, either, memory_size, aligned_down, width_bytes, with_number}
-use Rattle.ds_map.proofs.Words.{Shared, Palette, Oam, Space, Arm7, Width, Byte, Half, Word, Nine, Tick, Cells, Empty, Region, place_at, place_by}
-use Rattle.ds_map.proofs.Words.{place_of, shared_for_nine, Place, Cell, Banks, Rom, Nothing, IoState, vram_written, written_controls, written_length}
-use Rattle.ds_map.proofs.Words.{IsAll, with_number_length, after_read_at, cell_put, fetched_at, map_fetched, map_read, map_refusal, map_value}
-use Rattle.ds_map.proofs.Words.{map_written, refusal_at, value_at, written_at, MapState, MemoriesState, IsSharedSo, SharedPart, is_shown_to_nine}
-use Rattle.ds_map.proofs.Words.{mixed_banks, shared_put, shares_put}
-use Rattle.ds_places.specs.AddressTables.{regions_of_nine}
+use Rattle.ds_map.proofs.Words.{Arm7, Banks, Bool, Byte, Cell, Cells, Empty, Half, IoState, List, MapState, MemoriesState, Nine, None, Nothing, Oam}
+use Rattle.ds_map.proofs.Words.{Palette, Place, Region, Rom, Shared, Space, Tick, Width, Word, [], after_read_at, aligned_down, ap, arith, cell_put}
+use Rattle.ds_map.proofs.Words.{either, false, fetched_at, if◌then◌else◌, length, map_fetched, map_read, map_refusal, map_value, map_written}
+use Rattle.ds_map.proofs.Words.{memory_size, nat_le, nat_lt, place_at, place_by, place_of, refl, refusal_at, regions_of_nine, shared_for_nine, subst}
+use Rattle.ds_map.proofs.Words.{sym, true, true≢false, value_at, vram_written, width_bytes, with_number, written_at, ℕ, ◌%◌, ◌&&◌, ◌+◌, ◌-◌, ◌<◌}
+use Rattle.ds_map.proofs.Words.{◌==◌, ◌^◌, ◌∙◌, ◌∷◌, ◌≡◌, ◌≤◌}
+use Rattle.vram_banks.proofs.Allotted.{written_controls, written_length, value_apart, written_apart}
+use Rattle.vram_banks.proofs.Mixes.{IsAll, with_number_length, number_own, with_number_own}
+use Rattle.ds_map.specs.ShareLaws.{IsSharedSo, SharedPart, is_shown_to_nine, mixed_banks, shared_put, shares_put}
 use Rattle.vram_banks.specs.BankMap.{same_space}
 use Rattle.vram_banks.specs.Cells as cells
-use Rattle.vram_banks.proofs.Allotted.{value_apart, written_apart}
-use Rattle.vram_banks.proofs.Mixes.{number_own, with_number_own}
 use Rattle.ds_map.specs.Shares.{is_private_place}
 
 -- ARM9's accesses of the places that it alone reaches, past its tightly coupled memories, change its own bytes alone, depend on them alone, and aren't refused.

@@ -1,10 +1,8 @@
+use Rattle.ds_map.proofs.Words.{Bool, ap, arith, false, is_control_port, is_control_word, is_observed_port, is_within, nat_le, nat_lt, neither, refl}
+use Rattle.ds_map.proofs.Words.{ℕ, ◌%◌, ◌&&◌, ◌*◌, ◌+◌, ◌/◌, ◌==◌, ◌∙◌, ◌≡◌}
 use Rattle.std.specs.Prelude.{◌||◌}
-use Rattle.ds_map.proofs.Words.{ℕ, ◌≡◌, ◌+◌, ◌*◌, ◌/◌, ◌%◌, ◌==◌, ◌&&◌, nat_le, nat_lt, Bool, false, refl, ◌∙◌, ap, arith, is_control_word}
-use Rattle.ds_map.proofs.Words.{is_geometry_offset, is_observed_port}
-use Rattle.ds_base.proofs.Choices.{neither}
-use Rattle.ds_base.specs.Numbers.{is_within}
+use Rattle.ds_ports.proofs.GxApart.{is_geometry_offset}
 use Rattle.ds_places.proofs.Rows.{from_same}
-use Rattle.ds_map.specs.ObservedPorts.{is_control_port}
 
 -- The bytes of a word that is aligned are observed together; a port that isn't observed is neither geometry's nor a control word of a DMA channel's.
 

@@ -1,17 +1,13 @@
-use Rattle.std.specs.Prelude.{◌+◌, ◌&&◌}
-use Rattle.ds_map.proofs.Words.{ℕ, ◌≡◌, Bool, false, if◌then◌else◌, List, Option, Some, None, refl, sym, ◌∙◌, ap, aligned_down, with_number, Stop}
-use Rattle.ds_map.proofs.Words.{Memory, Shared, Vram, Space, Width, Proc, Tick, place_of, Place, Banks, Cell, Nothing, Port, Rom, IoState}
-use Rattle.ds_map.proofs.Words.{channel_moved, port_read, port_refusal, port_value, port_written, unless_stopped, UnitPart, BankControls, VideoMemory}
-use Rattle.ds_map.proofs.Words.{WramControl, io_graft, touches_none, vram_value, vram_written, after_read_at, cell_put, fetched_at, is_byte_of_nine}
-use Rattle.ds_map.proofs.Words.{map_fetched, map_read, map_refusal, map_value, map_written, refusal_at, takes_no_bytes, value_at, written_at}
-use Rattle.ds_map.proofs.Words.{MapState, MemoriesState, cells_of, with_cells, map_after_unit, unit_moved, unit_read, unit_refusal, unit_taken}
-use Rattle.ds_map.proofs.Words.{unit_waits, wait_at}
-use Rattle.ds_base.proofs.Choices.{and_false}
+use Rattle.ds_map.proofs.Words.{Banks, Bool, Cell, DmaUnit, IoState, List, MapState, MemoriesState, Memory, None, Nothing, Option, Place, Port, Proc}
+use Rattle.ds_map.proofs.Words.{Rom, Shared, Some, Space, Stop, Tick, Vram, Width, after_read_at, aligned_down, and_false, ap, cell_put, cells_of}
+use Rattle.ds_map.proofs.Words.{channel_moved, false, fetched_at, if◌then◌else◌, is_byte_of_nine, map_after_unit, map_fetched, map_read, map_refusal}
+use Rattle.ds_map.proofs.Words.{map_value, map_written, number_at, passes, place_of, port_read, port_refusal, port_value, port_written, reads, refl}
+use Rattle.ds_map.proofs.Words.{refusal_at, sym, takes_no_bytes, unit_moved, unit_read, unit_refusal, unit_taken, unit_waits, unless_stopped}
+use Rattle.ds_map.proofs.Words.{value_at, vram_value, vram_written, with_cells, with_number, written_at, ℕ, ◌&&◌, ◌+◌, ◌∙◌, ◌≡◌}
+use Rattle.ds_ports.specs.Touches.{UnitPart, BankControls, VideoMemory, WramControl, io_graft, touches_none}
+use Rattle.ds_map.specs.Waits.{wait_at}
 use Rattle.ds_base.specs.Deeds.{pick}
-use Rattle.ds_base.specs.Numbers.{number_at}
-use Rattle.ds_dma.specs.declared.channels.Unit.{Unit as DmaUnit}
 use Rattle.ds_ports.proofs.Covered.{Covers, chosen, read_passes, refusal_passes, value_same, write_passes}
-use Rattle.ds_ports.proofs.Passed.{passes, reads}
 use Rattle.vram_banks.specs.Cells as cells
 
 -- An access of the map passes a change of what is in it where what stands at its address passes it: it comes to the same, and leaves what it left, changed. Proved once, for

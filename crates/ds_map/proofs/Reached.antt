@@ -1,9 +1,7 @@
-use Rattle.ds_map.proofs.Words.{ℕ, ◌≡◌, ◌-◌, Bool, true, false, true≢false, ◌&&◌, nat_le, ◌==◌, if◌then◌else◌, List, [], ◌∷◌, ◌∙◌, length, refl, sym}
-use Rattle.ds_map.proofs.Words.{ap, memory_size, Memory, Shared, Own7, Palette, Oam, Proc, Nine, Seven, Place, BootRom, Cells, Content, Empty, Ports}
-use Rattle.ds_map.proofs.Words.{Region, Video, place_at, place_by, place_of, shared_for_nine, MemoriesState, cells_of, with_cells}
-use Rattle.std.proofs.Common.{◌++◌}
-use Rattle.ds_base.proofs.Choices.{both}
-use Rattle.ds_places.specs.AddressTables.{regions_of, shared_for_seven}
+use Rattle.ds_map.proofs.Words.{Bool, BootRom, Cells, Content, Empty, List, MemoriesState, Memory, Nine, Oam, Own7, Palette, Place, Ports, Proc}
+use Rattle.ds_map.proofs.Words.{Region, Seven, Shared, Video, [], ap, both, cells_of, false, if◌then◌else◌, length, memory_size, nat_le, place_at}
+use Rattle.ds_map.proofs.Words.{place_by, place_of, refl, regions_of, shared_for_nine, shared_for_seven, sym, true, true≢false, with_cells, ℕ, ◌&&◌}
+use Rattle.ds_map.proofs.Words.{◌++◌, ◌-◌, ◌==◌, ◌∙◌, ◌∷◌, ◌≡◌}
 use Rattle.ds_map.specs.MapLaws.{is_reached, reached, reaches, unreached, unreached_oam, unreached_palette, unreached_wram}
 
 -- The place of an address is one that its processor reaches, and accesses of what it reaches are those of all memories.

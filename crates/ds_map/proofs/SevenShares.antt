@@ -1,22 +1,16 @@
-use Rattle.ds_map.proofs.Words.{ℕ, ◌≡◌, ◌<◌, ◌+◌, ◌%◌, ◌==◌, Bool, true, false, nat_le, nat_lt, if◌then◌else◌, Option, Some, None, List, length, refl}
-use Rattle.ds_map.proofs.Words.{sym, ◌∙◌, ap, subst, arith, memory_size, aligned_down, width_bytes, Stop, Shared, Own7, Space, Arm7, Width, Byte}
-use Rattle.ds_map.proofs.Words.{Half, Word, Seven, Tick, Cells, Content, place_at, place_of, Place, Banks, Cell, Nothing, Port, Rom, IoState}
-use Rattle.ds_map.proofs.Words.{channel_moved, port_read, port_refusal, port_value, port_written, unless_stopped, UnitPart, BankControls, VideoMemory}
-use Rattle.ds_map.proofs.Words.{WramControl, io_graft, touches_none, vram_value, vram_written, written_controls, written_length, IsAll}
-use Rattle.ds_map.proofs.Words.{with_number_length, after_read_at, map_fetched, map_read, map_refusal, map_value, map_written, written_at, MapState}
-use Rattle.ds_map.proofs.Words.{unit_moved, unit_read, unit_refusal, unit_taken, IsSharedSo, SharedPart, is_shown_to_nine, mixed_banks, shared_put}
-use Rattle.ds_map.proofs.Words.{shares_put}
-use Rattle.ds_dma.specs.declared.channels.Unit.{Unit as DmaUnit}
-use Rattle.ds_places.specs.AddressTables.{regions_of_seven}
-use Rattle.ds_ports.specs.Io.{with_shares}
-use Rattle.ds_ports.specs.Touches.{is_part}
+use Rattle.ds_map.proofs.Words.{Arm7, Banks, Bool, Byte, Cell, Cells, Content, DmaUnit, Half, IoState, List, MapState, None, Nothing, Option, Own7}
+use Rattle.ds_map.proofs.Words.{Place, Port, Rom, Seven, Shared, Some, Space, Stop, Tick, Width, Word, after_read_at, aligned_down, ap, arith}
+use Rattle.ds_map.proofs.Words.{channel_moved, false, if◌then◌else◌, keeps_part, length, map_fetched, map_read, map_refusal, map_value, map_written}
+use Rattle.ds_map.proofs.Words.{memory_size, nat_le, nat_lt, place_at, place_of, port_read, port_refusal, port_value, port_written, read_left, refl}
+use Rattle.ds_map.proofs.Words.{regions_of_seven, subst, sym, true, unit_moved, unit_read, unit_refusal, unit_taken, unless_stopped, vram_value}
+use Rattle.ds_map.proofs.Words.{vram_written, width_bytes, with_shares, write_left, written_at, ℕ, ◌%◌, ◌+◌, ◌<◌, ◌==◌, ◌∙◌, ◌≡◌}
+use Rattle.ds_ports.specs.Touches.{UnitPart, BankControls, VideoMemory, WramControl, io_graft, touches_none, is_part}
+use Rattle.vram_banks.proofs.Allotted.{written_controls, written_length, value_allotted, written_allotted}
+use Rattle.vram_banks.proofs.Mixes.{IsAll, with_number_length, number_other, with_number_other}
+use Rattle.ds_map.specs.ShareLaws.{IsSharedSo, SharedPart, is_shown_to_nine, mixed_banks, shared_put, shares_put, is_beyond_seven, map_put}
 use Rattle.ds_ports.proofs.Covered.{covers_all}
-use Rattle.ds_ports.proofs.Passed.{keeps_part, read_left, write_left}
 use Rattle.vram_banks.specs.Cells as cells
 use Rattle.vram_banks.specs.MixLaws.{mixed}
-use Rattle.vram_banks.proofs.Allotted.{value_allotted, written_allotted}
-use Rattle.vram_banks.proofs.Mixes.{number_other, with_number_other}
-use Rattle.ds_map.specs.ShareLaws.{is_beyond_seven, map_put}
 use Rattle.ds_map.proofs.NineShares.{AllHold, by_all}
 use Rattle.ds_map.proofs.Passed as passed
 use Rattle.ds_map.proofs.Passed.{BanksPass, FetchPasses, PlacePasses, PortsPass, port_passes}

@@ -1,9 +1,7 @@
-use Rattle.ds_map.proofs.Words.{ℕ, ◌≡◌, true≢false, Option, Some, None, IsSome, refl, sym, ◌∙◌, ap, subst, aligned_down, Stop, Width, Proc, Nine}
-use Rattle.ds_map.proofs.Words.{Seven, Tick, dma_due, place_of, Place, before_move, port_refusal, port_written, unless_stopped, IoState}
-use Rattle.ds_map.proofs.Words.{channel_moved, channel_put_back, io_of, map_read, map_refusal, map_value, map_written, written_at, refusal_at}
-use Rattle.ds_map.proofs.Words.{MapState, map_after_unit, unit_read, unit_refusal, unit_taken, unit_waits}
-use Rattle.ds_dma.specs.States.{DmaState}
-use Rattle.ds_dma.specs.declared.channels.Unit.{Unit as DmaUnit}
+use Rattle.ds_map.proofs.Words.{DmaState, DmaUnit, IoState, IsSome, MapState, Nine, None, Option, Place, Proc, Seven, Some, Stop, Tick, Width}
+use Rattle.ds_map.proofs.Words.{aligned_down, ap, before_move, channel_moved, channel_put_back, dma_due, io_of, map_after_unit, map_read, map_refusal}
+use Rattle.ds_map.proofs.Words.{map_value, map_written, place_of, port_refusal, port_written, refl, refusal_at, subst, sym, true≢false, unit_read}
+use Rattle.ds_map.proofs.Words.{unit_refusal, unit_taken, unit_waits, unless_stopped, written_at, ℕ, ◌∙◌, ◌≡◌}
 use Rattle.ds_places.specs.declared.kinds.Place.TheVariants as place
 use Rattle.ds_map.proofs.Later.{map_read_leaves}
 

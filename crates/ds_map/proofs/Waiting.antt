@@ -1,13 +1,11 @@
-use Rattle.ds_map.proofs.Words.{ℕ, ◌≡◌, ◌<◌, ◌≤◌, ◌+◌, ◌*◌, ◌%◌, ◌^◌, true, false, List, [], ◌∷◌, length, Option, Some, None, ◌∙◌, ap, arith, Stop}
-use Rattle.ds_map.proofs.Words.{Main, Shared, Own7, Palette, Vram, Oam, Width, Byte, Half, Word, Proc, Nine, Seven, Tick, tcm_of, Tcm, place_of}
-use Rattle.ds_map.proofs.Words.{Place, Banks, Cell, Nothing, Port, Rom, MapState, unit_read, unit_waits, NineReach, wait_at}
+use Rattle.ds_map.proofs.Words.{Banks, Byte, Cell, DmaUnit, Half, List, Main, MapState, Nine, NineReach, None, Nothing, Oam, Option, Own7, Palette}
+use Rattle.ds_map.proofs.Words.{Place, Port, Proc, Rom, Seven, SevenReach, Shared, Some, Stop, Tcm, Tick, Vram, Width, Word, [], ap, arith, false}
+use Rattle.ds_map.proofs.Words.{length, place_of, tcm_of, true, unit_read, unit_waits, ℕ, ◌%◌, ◌*◌, ◌+◌, ◌<◌, ◌^◌, ◌∙◌, ◌∷◌, ◌≡◌, ◌≤◌}
+use Rattle.ds_map.specs.Waits.{wait_at, Waited, nine_wait, seven_wait, tcm_wait, unless_refused, waiting, waits_of}
 use Rattle.ds_base.specs.Accesses.{Access, Fetch, MemoryMachine, Performed, Read, Write, perform, refused_or, with_value}
 use Rattle.ds_base.specs.declared.memories.Memory.TheVariants.{Itcm, Dtcm}
 use Rattle.cp15_tcm.specs.declared.answers.Tcm.TheVariants as tcm
 use Rattle.ds_places.specs.Waits.{RegionWaits, chosen_wait, region_waits, wait_of}
-use Rattle.ds_dma.specs.declared.channels.Unit.{Unit as DmaUnit}
-use Rattle.ds_map.specs.Views.{SevenReach}
-use Rattle.ds_map.specs.Waits.{Waited, nine_wait, seven_wait, tcm_wait, unless_refused, waiting, waits_of}
 
 -- A bus that adds up waits comes to the same as one that doesn't, and adds up exactly the waits of the accesses that are made.
 

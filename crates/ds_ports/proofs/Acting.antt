@@ -1,5 +1,5 @@
-use Rattle.ds_ports.proofs.Words.{ℕ, ◌≡◌, ◌*◌, ◌^◌, ◌==◌, Option, ap, arith, Tick, Geometry, gx_port, GxState, gx_kept, kept_port, acting_io_due}
-use Rattle.ds_ports.proofs.Words.{first_acting_io_due, first_with, IoState}
+use Rattle.ds_ports.proofs.Words.{Geometry, GxState, IoState, Option, Tick, acting_io_due, ap, arith, first_acting_io_due, first_with, gx_kept}
+use Rattle.ds_ports.proofs.Words.{gx_port, kept_port, ℕ, ◌*◌, ◌==◌, ◌^◌, ◌≡◌}
 use Rattle.ds_ports.specs.Dues.{first_io_due}
 
 -- The first of what is due behind the ports, and of what acts of it; and what is asked of GXSTAT.

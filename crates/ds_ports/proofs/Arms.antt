@@ -1,13 +1,10 @@
-use Rattle.ds_ports.proofs.Words.{◌||◌, ℕ, zero, suc, ◌≡◌, ◌<◌, ◌≤◌, ◌+◌, ◌-◌, ◌/◌, ◌%◌, inl, inr, ◌==◌, Bool, true, false, true≢false, if◌then◌else◌}
-use Rattle.ds_ports.proofs.Words.{List, [], ◌∷◌, length, slice_set, Some, None, refl, sym, ◌∙◌, ap, subst, arith, both, equal, one_of, width_bytes}
-use Rattle.ds_ports.proofs.Words.{Width, Proc, Nine, Seven, Tick, Channel, after_unit, is_last_of_burst, is_last_unit, is_triggered, triggered}
-use Rattle.ds_ports.proofs.Words.{is_armed_again, is_enabled, waits_for, DmaState, channel_at, dma_finished, dma_triggered, due_channel}
-use Rattle.ds_ports.proofs.Words.{least_running, Cause, is_armed, IoState, port_read, port_written, PortRow, register_map, row_bytes, slot_in}
-use Rattle.ds_ports.proofs.Words.{slot_of, after_write, Register, Dmasad, Dmadad, Dmacnt, DmaNine}
-use Rattle.std.proofs.Common.{◌&&◌, not, map, rules, length-set}
-use Rattle.std.proofs.lemmas.List.{length-map}
-use Rattle.ds_dma.specs.Channels.{armed_again, emptied, rest_of}
-use Rattle.ds_dma.specs.Controls.{disabled, burst_of, kept_address}
+use Rattle.ds_ports.proofs.Words.{Bool, Cause, Channel, DmaNine, DmaState, Dmacnt, Dmadad, Dmasad, IoState, List, Nine, None, PortRow, Proc, Register}
+use Rattle.ds_ports.proofs.Words.{Seven, Some, Tick, Width, [], after_write, ap, arith, both, channel_at, dma_finished, dma_triggered, due_channel}
+use Rattle.ds_ports.proofs.Words.{equal, false, if◌then◌else◌, inl, inr, is_armed, least_running, length, length-map, length-set, map, not, one_of}
+use Rattle.ds_ports.proofs.Words.{port_read, port_written, refl, register_map, row_bytes, rules, slice_set, slot_in, slot_of, subst, suc, sym, true}
+use Rattle.ds_ports.proofs.Words.{true≢false, width_bytes, zero, ℕ, ◌%◌, ◌&&◌, ◌+◌, ◌-◌, ◌/◌, ◌<◌, ◌==◌, ◌||◌, ◌∙◌, ◌∷◌, ◌≡◌, ◌≤◌}
+use Rattle.ds_dma.specs.Channels.{after_unit, is_last_of_burst, is_last_unit, is_triggered, triggered, armed_again, emptied, rest_of}
+use Rattle.ds_dma.specs.Controls.{is_armed_again, is_enabled, waits_for, disabled, burst_of, kept_address}
 use Rattle.ds_dma.specs.declared.controls.Cause.TheVariants.{Geometry}
 use Rattle.ds_ports.proofs.Covered.{Of, OfKind, covers, covers_all, write_leaves}
 use Rattle.ds_ports.proofs.Passed.{keeps_part, read_left, row_leaves, write_left}

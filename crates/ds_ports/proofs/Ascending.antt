@@ -1,11 +1,10 @@
-use Rattle.ds_ports.proofs.Words.{ℕ, ◌≡◌, ◌<◌, ◌≤◌, ◌+◌, ◌-◌, ◌*◌, ◌/◌, ◌%◌, ◌^◌, ◌⊎◌, inl, inr, true, nat_le, Option, Some, None, refl, sym, ◌∙◌, ap}
-use Rattle.ds_ports.proofs.Words.{subst, arith, IfSome, none-some, same_Some, Width, Byte, Half, Word, width_bytes, Stop, Proc, Tick}
-use Rattle.ds_ports.proofs.Words.{half_refusal, half_written, port_half, port_read, port_refusal, port_value, port_word, port_written, slot_read}
-use Rattle.ds_ports.proofs.Words.{read_or, refusal_or, whole_in, word_refusal, word_written, written_or, IsWidth, StandsWhole, slot_of, IoState, Slot}
+use Rattle.ds_ports.proofs.Words.{Byte, GoesAscending, Half, IfSome, IoState, IsWidth, None, Option, Proc, Slot, Some, StandsWhole, Stop, Tick, Width}
+use Rattle.ds_ports.proofs.Words.{Word, ap, arith, ascending, begun_refusal, begun_value, begun_written, first_refusal, half_refusal, half_written}
+use Rattle.ds_ports.proofs.Words.{inl, inr, nat_le, none-some, option_or, port_half, port_read, port_refusal, port_value, port_word, port_written}
+use Rattle.ds_ports.proofs.Words.{read_or, refl, refusal_or, same_Some, slot_of, slot_read, subst, sym, true, values_from, whole_in, width_bytes}
+use Rattle.ds_ports.proofs.Words.{word_refusal, word_written, written_or, ℕ, ◌%◌, ◌*◌, ◌+◌, ◌-◌, ◌/◌, ◌<◌, ◌^◌, ◌∙◌, ◌≡◌, ◌≤◌, ◌⊎◌}
 use Rattle.std.proofs.Math.Nat.{div-div-eq-div-mul}
-use Rattle.ds_ports.specs.Ports.{GoesAscending, ascending, begun_refusal, begun_value, begun_written, first_refusal, values_from}
 use Rattle.ds_ports.proofs.Together.{stands_whole}
-use Rattle.std.specs.Option.{option_or}
 
 -- An access that lies in no one register is one of each register that begins in it, whole, in ascending address.
 

@@ -1,13 +1,10 @@
-use Rattle.ds_ports.proofs.Words.{ℕ, ◌≡◌, ◌<◌, ◌+◌, ◌-◌, ◌*◌, ◌/◌, ◌^◌, inl, inr, Bool, true, false, true≢false, if◌then◌else◌, Option, Some, None}
-use Rattle.ds_ports.proofs.Words.{refl, sym, ◌∙◌, ap, subst, arith, ◌||◌, IfSome, either, one_of, width_bytes, Stop, Width, Byte, Half, Word, Proc}
-use Rattle.ds_ports.proofs.Words.{Tick, IoState, byte_written, half_refusal, half_written, ignores, part, port_half, port_read}
-use Rattle.ds_ports.proofs.Words.{port_refusal, port_value, port_word, port_written, read_or, slot_read, refusal_or, slot_joined, slot_refusal}
-use Rattle.ds_ports.proofs.Words.{slot_value, slot_written, whole_if, whole_in, with_bytes_from, word_refusal, word_written, written_or, PortRow}
-use Rattle.ds_ports.proofs.Words.{register_map, slot_of, after_write, meaning_of, Register, Slot}
-use Rattle.ds_base.proofs.Choices.{never}
-use Rattle.ds_ports.specs.Ports.{byte_refusal, port_byte}
+use Rattle.ds_ports.proofs.Words.{Bool, Byte, Half, IfSome, IoState, None, Option, PortRow, Proc, Register, Slot, Some, Stop, Tick, Width, Word}
+use Rattle.ds_ports.proofs.Words.{after_write, ap, arith, byte_refusal, byte_written, either, false, half_refusal, half_written, if◌then◌else◌}
+use Rattle.ds_ports.proofs.Words.{ignores, inl, inr, meaning_of, never, one_of, option_or, part, port_byte, port_half, port_read, port_refusal}
+use Rattle.ds_ports.proofs.Words.{port_value, port_word, port_written, read_or, refl, refusal_or, register_map, slot_joined, slot_of, slot_read}
+use Rattle.ds_ports.proofs.Words.{slot_refusal, slot_value, slot_written, subst, sym, true, true≢false, whole_if, whole_in, width_bytes}
+use Rattle.ds_ports.proofs.Words.{with_bytes_from, word_refusal, word_written, written_or, ℕ, ◌*◌, ◌+◌, ◌-◌, ◌/◌, ◌<◌, ◌^◌, ◌||◌, ◌∙◌, ◌≡◌}
 use Rattle.ds_ports.proofs.RegisterMaps.{all_rows, each_place, lies_in, of_place, slot_by_all}
-use Rattle.std.specs.Option.{option_or}
 
 -- A law of the registers of which an access covers bytes is a law of the access.
 

@@ -1,9 +1,8 @@
-use Rattle.ds_ports.proofs.Words.{ℕ, ◌≡◌, List, refl, ◌∙◌, ap, Width, Byte, Half, Word, Proc, Nine, Seven, ScanState, VideoState, video_written, B}
+use Rattle.ds_ports.proofs.Words.{A, B, Byte, Half, List, Nine, Proc, ScanState, Seven, VideoState, Width, Word, ap, refl, video_written, ℕ, ◌∙◌, ◌≡◌}
 use Rattle.video2d.specs.Engines.{EngineState}
 use Rattle.video2d.specs.Ports.{video_port}
 use Rattle.video2d.specs.Videos.{video_byte_written, video_byte_written_by, with_engine}
 use Rattle.video2d.specs.declared.engines.Engine.{Engine}
-use Rattle.video2d.specs.declared.engines.Engine.TheVariants.{A}
 use Rattle.video2d.specs.declared.ports.VideoPort.{VideoPort}
 use Rattle.video2d.specs.declared.ports.VideoPort.TheVariants.{Status, Count, OfEngine, Power, Nothing}
 

@@ -1,8 +1,6 @@
-use Rattle.std.proofs.Common.{ℕ, ◌≡◌, ◌≤◌, ◌+◌, ◌-◌, Bool, true, false, ◌&&◌, nat_le, nat_lt, if◌then◌else◌, List, [], ◌∷◌, Option, Some, refl, ◌∙◌, ap, arith}
-use Rattle.ds_ports.specs.RegisterMap.{display_port, display_ports, row_bytes, slot_by, slot_in}
-use Rattle.ds_ports.specs.Parts.{slot_among, slot_from}
-use Rattle.ds_ports.specs.declared.registers.Slot.{Slot}
-use Rattle.video2d.specs.DisplayRegisters.{display_row, has_byte, row_among}
+use Rattle.ds_ports.proofs.Words.{Bool, List, Option, Slot, Some, [], ap, arith, display_row, false, has_byte, if◌then◌else◌, nat_le, nat_lt, refl}
+use Rattle.ds_ports.proofs.Words.{row_among, row_bytes, slot_among, slot_by, slot_from, slot_in, true, ℕ, ◌&&◌, ◌+◌, ◌-◌, ◌∙◌, ◌∷◌, ◌≡◌, ◌≤◌}
+use Rattle.ds_ports.specs.RegisterMap.{display_port, display_ports}
 use Rattle.video2d.specs.declared.display_registers.DisplayRegister.{DisplayRegister}
 use Rattle.video2d.specs.declared.display_registers.DisplayRow.{DisplayRow}
 

@@ -1,13 +1,11 @@
-use Rattle.ds_ports.proofs.Words.{◌&&◌, not, ℕ, suc, ◌≡◌, ◌≢◌, ◌+◌, ◌==◌, Bool, true, false, if◌then◌else◌, List, [], ◌∷◌, ◌++◌, Option, Some, None}
-use Rattle.ds_ports.proofs.Words.{is_some, refl, ◌∙◌, ap, arith, Half, Word, Proc, Nine, Seven, Due, Tick, card_due, ready, DmaState, channel_at}
-use Rattle.ds_ports.proofs.Words.{channel_due, dma_due, due_with, DmaDue, Video, first_from, timer_at, timer_due, first_acting_io_due, io_due}
-use Rattle.ds_ports.proofs.Words.{first_with, moves_dues, ProcessorIoState, keys_hold, keys_told, after_write, meaning_of, word_received, word_sent}
-use Rattle.ds_ports.proofs.Words.{IoState, keys_pressed, io_of, with_halted, with_io_of, UnitPart, among, beyond, changes_some, io_graft, Register}
-use Rattle.ds_ports.proofs.Words.{DisplayHalf, DisplayWord, Ipcfiforecv, CardData, Banks}
-use Rattle.ds_runs.specs.OrderLaws.{due_with_rank, earlier}
+use Rattle.ds_ports.proofs.Words.{Banks, Bool, CardData, DisplayHalf, DisplayWord, DmaDue, DmaState, Due, Half, IoState, Ipcfiforecv, List, Nine}
+use Rattle.ds_ports.proofs.Words.{None, Option, Proc, ProcessorIoState, Register, Seven, Some, Tick, UnitPart, Video, Word, [], after_write, among}
+use Rattle.ds_ports.proofs.Words.{ap, arith, beyond, card_due, changes_some, channel_at, channel_due, dma_due, dma_due_in, due_with, false}
+use Rattle.ds_ports.proofs.Words.{first_acting_io_due, first_with, if◌then◌else◌, io_due, io_graft, io_of, is_some, keys_hold, keys_pressed}
+use Rattle.ds_ports.proofs.Words.{keys_told, meaning_of, moves_dues, moving_parts, not, ready, refl, suc, timer_at, timer_due, true, with_halted}
+use Rattle.ds_ports.proofs.Words.{with_io_of, word_received, word_sent, ℕ, ◌&&◌, ◌++◌, ◌+◌, ◌==◌, ◌∙◌, ◌∷◌, ◌≡◌, ◌≢◌}
+use Rattle.ds_runs.specs.OrderLaws.{first_from, due_with_rank, earlier}
 use Rattle.ds_runs.proofs.Firsts.{first_of_append}
-use Rattle.ds_ports.specs.Dues.{dma_due_in}
-use Rattle.ds_ports.specs.Inside.{moving_parts}
 use Rattle.ds_ports.specs.Touches.{Display}
 use Rattle.ds_ports.proofs.DisplayPorts.{written_scan}
 use Rattle.ds_ports.proofs.Passed.{first_false, stays_by_row}

@@ -1,27 +1,23 @@
-use Rattle.ds_ports.proofs.Words.{ℕ, ◌≡◌, ◌<◌, ◌≤◌, inl, inr, Bool, true, false, true≢false, if◌then◌else◌, List, Option, Some, None, refl, sym, ◌∙◌}
-use Rattle.ds_ports.proofs.Words.{ap, subst, arith, ◌||◌, ◌&&◌, IsSome, none-some, either, IsLater, Reschedules, Stop, Proc, Nine, Seven, Tick, ready}
-use Rattle.ds_ports.proofs.Words.{CardState, card_after_event, card_due, card_starter, event_readies, event_ends, AreReadyLater, DmaState, IsDma}
-use Rattle.ds_ports.proofs.Words.{any_runs, channel_at, channel_due, dma_due, dma_finished, due_channel, due_with, least_running, most_waits, Cause}
-use Rattle.ds_ports.proofs.Words.{VBlank, HBlank, all_later, event_schedules, dma_finished_is, dma_triggered_is, event_runs, other_proc, IsNumbered}
-use Rattle.ds_ports.proofs.Words.{KeyScript, Video, Timer, Divider, SquareRoot, Geometry, Card, Dma, Processor, TimerState, overflow_of, timer_at}
-use Rattle.ds_ports.proofs.Words.{timer_due, one_reschedules, overflow_keeps, held_due, io_due, IsIo, IsUnchanged, IsProcessorIo, ReschedulesEach}
-use Rattle.ds_ports.proofs.Words.{ProcessorIoState, blocks_processor, processor_io_moved, processor_io_raised, processor_io_triggered, IoState}
-use Rattle.ds_ports.proofs.Words.{both_raised, card_done, card_done_at, starter_told, told_of_card, channel_moved, channels_shown, channels_triggered}
-use Rattle.ds_ports.proofs.Words.{io_event, io_of, keys_pressed, shown_to_others, timer_overflows, video_done, with_io_of}
-use Rattle.ds_ports.proofs.Words.{AreWaiting, is_stalled, Raised, ScanState, scan_after, scan_due, scan_due_tick, VideoState, unless_stop}
-use Rattle.ds_ports.proofs.Words.{video_after_event, video_happened, video_shown, video_stop, Shown, Banks}
-use Rattle.std.specs.Prelude.{◌==◌}
+use Rattle.ds_ports.proofs.Words.{AreReadyLater, AreWaiting, Banks, Bool, CardState, Cause, Dma, DmaState, Geometry, HBlank, IoState, IsDma, IsIo}
+use Rattle.ds_ports.proofs.Words.{IsLater, IsNumbered, IsProcessorIo, IsSome, IsUnchanged, List, Nine, None, Option, Proc, ProcessorIoState, Raised}
+use Rattle.ds_ports.proofs.Words.{Reschedules, ReschedulesEach, ScanState, Seven, Shown, Some, Stop, Tick, Timer, TimerState, VBlank, Video}
+use Rattle.ds_ports.proofs.Words.{VideoState, any_runs, ap, arith, blanks_drawn_line, blocks_processor, both_raised, card_after_event, card_done}
+use Rattle.ds_ports.proofs.Words.{card_done_at, card_due, card_starter, channel_at, channel_due, channel_moved, channels_shown, channels_triggered}
+use Rattle.ds_ports.proofs.Words.{division_finished, dma_due, dma_finished, dma_finished_is, dma_triggered_is, due_channel, due_with, either}
+use Rattle.ds_ports.proofs.Words.{event_ends, event_readies, event_runs, event_schedules, false, held_due, if◌then◌else◌, inl, inr, io_due, io_event}
+use Rattle.ds_ports.proofs.Words.{io_of, is_stalled, keys_pressed, least_running, line_after, most_waits, none-some, one_reschedules, other_proc}
+use Rattle.ds_ports.proofs.Words.{overflow_keeps, overflow_of, overflow_schedules, processor_io_moved, processor_io_raised, processor_io_triggered}
+use Rattle.ds_ports.proofs.Words.{ready, refl, root_finished, scan_after, scan_due, scan_due_tick, shown_to_others, starter_told, starts_vblank}
+use Rattle.ds_ports.proofs.Words.{subst, sym, timer_at, timer_due, timer_overflows, told_of_card, true, true≢false, unless_stop, video_done}
+use Rattle.ds_ports.proofs.Words.{video_happened, video_shown, video_stop, with_io_of, ℕ, ◌&&◌, ◌<◌, ◌==◌, ◌||◌, ◌∙◌, ◌≡◌, ◌≤◌}
+use Rattle.ds_dma.proofs.Turns.{all_later, finished_later}
+use Rattle.ds_runs.specs.declared.actors.Actor.TheVariants.{KeyScript, Divider, SquareRoot, Card, Processor}
+use Rattle.video2d.specs.Videos.{video_after_event, hblank_set, line_drawn, video_blanked, video_line_started}
 use Rattle.ds_dma.specs.declared.controls.Cause.TheVariants as causes
-use Rattle.ds_dma.proofs.Turns.{finished_later}
 use Rattle.ds_runs.specs.declared.actors.Actor as actor
-use Rattle.ds_timers.proofs.Overflowed.{overflow_schedules}
 use Rattle.ds_ports.proofs.HeldDues.{held_reschedules}
 use Rattle.ds_ports.proofs.Later.{ProcessorIoReschedules, card_each, divider_each, each_processor_io, in_turn, io_is, processor_io_across, processor_io_each, processor_io_is, processor_io_there, raised_unchanged, root_each, told_unchanged, unchanged_is, unchanged_same}
-use Rattle.video2d.specs.Scans.{blanks_drawn_line, line_after, starts_vblank}
 use Rattle.video2d.specs.Engines.{points_stepped}
-use Rattle.video2d.specs.Videos.{hblank_set, line_drawn, video_blanked, video_line_started}
-use Rattle.ds_math.specs.Dividers.{division_finished}
-use Rattle.ds_math.specs.Roots.{root_finished}
 
 -- What the events of the actors behind the ports make of the units, each at the tick at which it is due.
 

@@ -1,15 +1,14 @@
-use Rattle.ds_ports.proofs.Words.{ℕ, ◌≡◌, ◌≤◌, ◌+◌, ◌-◌, ◌/◌, ◌^◌, Bool, true, false, true≢false, nat_lt, if◌then◌else◌, Option, Some, None, refl}
-use Rattle.ds_ports.proofs.Words.{sym, ◌∙◌, ap, subst, arith, IfSome, not, either, Stop, Width, Byte, Half, Word, Proc, Nine, Seven, Tick, GxPort}
-use Rattle.ds_ports.proofs.Words.{Display, Fifo, Direct, Status, Lengths, Position, Vector, Clip, VectorMatrix, Unlisted, gx_port, AreWaiting}
-use Rattle.ds_ports.proofs.Words.{GxState, waiting_entries, write_port, guarded_written, is_overfull, IoState, byte_written, half_written, ignores}
-use Rattle.ds_ports.proofs.Words.{port_refusal, port_written, slot_joined, slot_written, unless_stopped, whole_if, whole_in, word_written}
-use Rattle.ds_ports.proofs.Words.{written_or, PortRow, register_map, slot_of, after_write, gx_set, Register, GxWord, GxCommand, Slot}
-use Rattle.std.proofs.Common.{◌&&◌}
+use Rattle.ds_ports.proofs.Words.{AreWaiting, Bool, Byte, GxCommand, GxPort, GxState, GxWord, Half, IfSome, IoState, Nine, None, Option, PortRow}
+use Rattle.ds_ports.proofs.Words.{Proc, Register, Seven, Slot, Some, Stop, Tick, Width, Word, after_write, ap, arith, byte_written, either, false}
+use Rattle.ds_ports.proofs.Words.{gx_port, gx_set, half_written, if◌then◌else◌, ignores, is_whole_word, nat_lt, not, port_refusal, port_written, refl}
+use Rattle.ds_ports.proofs.Words.{register_map, slot_joined, slot_of, slot_written, subst, sym, true, true≢false, unless_stopped, waiting_entries}
+use Rattle.ds_ports.proofs.Words.{whole_if, whole_in, word_written, write_port, written_or, ℕ, ◌&&◌, ◌+◌, ◌-◌, ◌/◌, ◌^◌, ◌∙◌, ◌≡◌, ◌≤◌}
+use Rattle.gx_fifo.specs.declared.ports.GxPort.TheVariants.{Display, Fifo, Direct, Status, Lengths, Position, Vector, Clip, VectorMatrix, Unlisted}
+use Rattle.ds_ports.specs.Guards.{guarded_written, is_overfull}
 use Rattle.gx_fifo.proofs.Laws.{written_grows}
 use Rattle.ds_ports.specs.Touches as touches
 use Rattle.ds_ports.proofs.Passed.{keeps_part, row_leaves}
 use Rattle.ds_ports.proofs.RegisterMaps.{each_place, of_place, slot_by_all}
-use Rattle.ds_card.specs.Cards.{is_whole_word}
 
 -- An access adds four entries at most to those that wait for geometry: one of a whole word of a command's port alone adds any.
 

@@ -1,11 +1,11 @@
-use Rattle.ds_ports.proofs.Words.{ℕ, ◌≡◌, ◌≢◌, ◌<◌, ◌+◌, nat_le, nat_lt, if◌then◌else◌, Bool, true, false, List, Option, Some, None, refl, ◌∙◌, ap}
-use Rattle.ds_ports.proofs.Words.{arith, ◌||◌, width_bytes, Stop, Width, Proc, Nine, Seven, Tick, card_due, card_starter, channel_due, VBlank, HBlank}
-use Rattle.ds_ports.proofs.Words.{Timer, Geometry, Card, Dma, held_due, io_due, IoState, both_raised, card_done_at, channel_moved, channels_triggered}
-use Rattle.ds_ports.proofs.Words.{io_event, shown_to_others, video_done, with_gx, PortRow, row_bytes, Register, UnitPart, touches_none, is_part}
-use Rattle.ds_ports.proofs.Words.{GxState, is_stalled, scan_due_tick, unless_stop, video_after_event, video_shown, video_stop, Shown}
-use Rattle.std.proofs.Common.{◌&&◌}
+use Rattle.ds_ports.proofs.Words.{Bool, Dma, Geometry, GxState, HBlank, IoState, List, Nine, None, Option, PortRow, Proc, Register, Seven, Shown}
+use Rattle.ds_ports.proofs.Words.{Some, Stop, Tick, Timer, UnitPart, VBlank, Width, ap, arith, both_raised, card_done_at, card_due, card_starter}
+use Rattle.ds_ports.proofs.Words.{channel_due, channel_moved, channels_triggered, false, held_due, if◌then◌else◌, io_at_boot, io_due, io_event}
+use Rattle.ds_ports.proofs.Words.{is_part, is_stalled, nat_le, nat_lt, refl, row_bytes, scan_due_tick, shown_to_others, touches_none, true}
+use Rattle.ds_ports.proofs.Words.{unless_stop, video_done, video_shown, video_stop, width_bytes, with_gx, ℕ, ◌&&◌, ◌+◌, ◌<◌, ◌||◌, ◌∙◌, ◌≡◌, ◌≢◌}
+use Rattle.ds_runs.specs.declared.actors.Actor.TheVariants.{Card}
+use Rattle.video2d.specs.Videos.{video_after_event}
 use Rattle.ds_runs.specs.declared.actors.Actor as actor
-use Rattle.ds_ports.specs.Io.{io_at_boot}
 use Rattle.ds_ports.specs.Touches as touches
 use Rattle.ds_ports.proofs.Covered.{Covers, chosen, covers, covers_all, slot_is}
 

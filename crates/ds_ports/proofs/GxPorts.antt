@@ -1,10 +1,10 @@
-use Rattle.ds_ports.proofs.Words.{ℕ, ◌≡◌, ◌≤◌, ◌+◌, ◌/◌, ◌^◌, nat_le, nat_lt, if◌then◌else◌, Bool, true, false, List, [], ◌∷◌, ◌++◌, length, Option}
-use Rattle.ds_ports.proofs.Words.{Some, None, refl, arith, bit, Tick, command_of, command_row, GeometryCommand, GeometryState, Swapped, GxEntry}
-use Rattle.ds_ports.proofs.Words.{GxPort, Display, Fifo, Direct, Status, Lengths, Position, Vector, Clip, VectorMatrix, Unlisted, gx_port, GxState}
-use Rattle.ds_ports.proofs.Words.{gx_written, is_stalled, waiting_entries, write_port, entry_added}
-use Rattle.std.proofs.lemmas.List.{length-append}
-use Rattle.gx_geometry.specs.States.{geometry_error_cleared, overflow_cleared}
-use Rattle.gx_fifo.specs.PackedWords.{FifoState, added_by, first_command, parameter_taken, unpacked, with_word}
+use Rattle.ds_ports.proofs.Words.{Bool, GeometryCommand, GxEntry, GxPort, GxState, List, None, Option, Some, Tick, [], arith, bit, false, gx_port}
+use Rattle.ds_ports.proofs.Words.{gx_written, if◌then◌else◌, is_stalled, length, length-append, nat_le, nat_lt, refl, true, waiting_entries}
+use Rattle.ds_ports.proofs.Words.{write_port, ℕ, ◌++◌, ◌+◌, ◌/◌, ◌^◌, ◌∷◌, ◌≡◌, ◌≤◌}
+use Rattle.gx_matrix.specs.CommandTable.{command_of, command_row}
+use Rattle.gx_geometry.specs.States.{GeometryState, Swapped, geometry_error_cleared, overflow_cleared}
+use Rattle.gx_fifo.specs.declared.ports.GxPort.TheVariants.{Display, Fifo, Direct, Status, Lengths, Position, Vector, Clip, VectorMatrix, Unlisted}
+use Rattle.gx_fifo.specs.PackedWords.{entry_added, FifoState, added_by, first_command, parameter_taken, unpacked, with_word}
 
 -- What a write of one of geometry's registers leaves.
 

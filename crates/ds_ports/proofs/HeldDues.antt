@@ -1,7 +1,6 @@
-use Rattle.ds_ports.proofs.Words.{ℕ, ◌≡◌, ◌==◌, inl, inr, Bool, true, false, if◌then◌else◌, [], ◌∷◌, Option, Some, None, is_some, true≢false, refl}
-use Rattle.ds_ports.proofs.Words.{sym, ap, arith, IsLater, Reschedules, Due, Tick, ready, DmaState, channel_at, channel_due, first_from, held_due}
-use Rattle.ds_ports.proofs.Words.{released_at}
-use Rattle.std.specs.Prelude.{max}
+use Rattle.ds_ports.proofs.Words.{Bool, DmaState, Due, IsLater, None, Option, Reschedules, Some, Tick, [], ap, arith, channel_at, channel_due, false}
+use Rattle.ds_ports.proofs.Words.{held_due, if◌then◌else◌, inl, inr, is_some, max, ready, refl, released_at, sym, true, true≢false, ℕ, ◌==◌, ◌∷◌, ◌≡◌}
+use Rattle.ds_runs.specs.OrderLaws.{first_from}
 use Rattle.std.proofs.Math.Nat.{le-max_right}
 
 -- When ARM9's channels are due that a stall holds, and that aren't due before a tick.

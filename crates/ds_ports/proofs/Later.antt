@@ -1,25 +1,23 @@
-use Rattle.ds_ports.proofs.Words.{ℕ, ◌≡◌, ◌<◌, ◌≤◌, ◌+◌, ◌%◌, ◌^◌, inl, inr, true, false, List, Option, Some, None, refl, sym, ◌∙◌, ap, subst, arith}
-use Rattle.ds_ports.proofs.Words.{either, bits, IsLater, Reschedules, Stop, Width, Half, Word, Proc, Nine, Seven, Raised, Tick, data_port_at}
-use Rattle.ds_ports.proofs.Words.{CardState, card_after_read, card_due, card_written, read_raised, AreReadyLater, IsDma, channel_due, DmaPort, Source}
-use Rattle.ds_ports.proofs.Words.{Target, Control, all_later, channel_written_is, IpcState, other_proc, DividerState, division_ticks, RootState}
-use Rattle.ds_ports.proofs.Words.{IsNumbered, Video, Timer, Divider, SquareRoot, Geometry, Card, Dma, TimerState, AreTimers, control_set}
-use Rattle.ds_ports.proofs.Words.{kept_control, reload_set, timer_at, timer_due, control_set_is, reload_set_is, one_reschedules, AreWaiting, GxState}
-use Rattle.ds_ports.proofs.Words.{gx_written, is_stalled, waiting_entries, io_due, guarded_written, is_overfull, IsIo, IsTold, IsUnchanged}
-use Rattle.ds_ports.proofs.Words.{IsProcessorIo, ReschedulesEach, ProcessorIoState, dma_written, haltcnt_written, kept_keycnt, keycnt_written}
-use Rattle.ds_ports.proofs.Words.{keys_hold, keys_told, processor_io_raised, port_read, port_refusal, port_written, unless_stopped, IsSlot}
-use Rattle.ds_ports.proofs.Words.{after_write, card_set, card_word_taken, gx_set, meaning_of, IoState, both_raised, io_of, raised_to, with_io_of}
-use Rattle.ds_ports.proofs.Words.{Register, DisplayHalf, DisplayWord, Dmasad, Dmadad, Dmacnt, TmcntL, TmcntH, Keycnt, Ipcsync, Ipcfifocnt}
-use Rattle.ds_ports.proofs.Words.{Ipcfifosend, Ipcfiforecv, Ime, Ie, If, Divcnt, DivNumer, DivDenom, Sqrtcnt, SqrtParam, GxWord, GxCommand, Auxspicnt}
-use Rattle.ds_ports.proofs.Words.{CardWord, CardData, Haltcnt, ScanState, scan_due_tick, VideoState, video_written}
-use Rattle.std.specs.Prelude.{◌==◌}
-use Rattle.ds_card.specs.Cards.{card_due_for, same_proc}
-use Rattle.ds_card.proofs.Schedules.{read_leaves_other, read_schedules, write_leaves_other, write_schedules}
-use Rattle.ds_dma.proofs.Wholes.{channel_written_later}
+use Rattle.ds_ports.proofs.Words.{AreReadyLater, AreTimers, AreWaiting, Auxspicnt, CardData, CardState, CardWord, Control, DisplayHalf, DisplayWord}
+use Rattle.ds_ports.proofs.Words.{DivDenom, DivNumer, Divcnt, DividerState, Dma, DmaPort, Dmacnt, Dmadad, Dmasad, Geometry, GxCommand, GxState}
+use Rattle.ds_ports.proofs.Words.{GxWord, Half, Haltcnt, Ie, If, Ime, IoState, IpcState, Ipcfifocnt, Ipcfiforecv, Ipcfifosend, Ipcsync, IsDma, IsIo}
+use Rattle.ds_ports.proofs.Words.{IsLater, IsNumbered, IsProcessorIo, IsSlot, IsUnchanged, Keycnt, List, Nine, None, Option, Proc, ProcessorIoState}
+use Rattle.ds_ports.proofs.Words.{Raised, Register, Reschedules, ReschedulesEach, RootState, ScanState, Seven, Some, Source, SqrtParam, Sqrtcnt, Stop}
+use Rattle.ds_ports.proofs.Words.{Target, Tick, Timer, TimerState, TmcntH, TmcntL, Video, VideoState, Width, Word, after_write, ap, arith, bits}
+use Rattle.ds_ports.proofs.Words.{both_raised, card_after_read, card_due, card_due_for, card_set, card_word_taken, card_written, channel_due}
+use Rattle.ds_ports.proofs.Words.{channel_written_is, channel_written_later, control_set, data_port_at, division_ticks, dma_written, either, false}
+use Rattle.ds_ports.proofs.Words.{gx_set, gx_written, haltcnt_written, inl, inr, io_due, io_of, is_stalled, kept_control, kept_keycnt, keycnt_written}
+use Rattle.ds_ports.proofs.Words.{keys_hold, keys_told, meaning_of, most_entries, numbers_of, one_reschedules, other_proc, port_read, port_refusal}
+use Rattle.ds_ports.proofs.Words.{port_written, processor_io_raised, raised_to, read_leaves_other, read_raised, read_schedules, refl, reload_set}
+use Rattle.ds_ports.proofs.Words.{same_proc, scan_due_tick, subst, sym, timer_at, timer_due, true, unless_stopped, video_written, waiting_entries}
+use Rattle.ds_ports.proofs.Words.{with_io_of, write_leaves_other, write_schedules, ℕ, ◌%◌, ◌+◌, ◌<◌, ◌==◌, ◌^◌, ◌∙◌, ◌≡◌, ◌≤◌}
+use Rattle.ds_dma.proofs.Turns.{all_later}
+use Rattle.ds_runs.specs.declared.actors.Actor.TheVariants.{Divider, SquareRoot, Card}
+use Rattle.ds_timers.proofs.Changed.{control_set_is, reload_set_is, control_schedules, reload_leaves}
+use Rattle.ds_ports.specs.Guards.{guarded_written, is_overfull}
+use Rattle.ds_ports.specs.HappeningLaws.{IsTold, Goes, LeavesGeometry, LeavesTransfer, HasOnlyLaterEvents}
 use Rattle.ds_runs.specs.declared.actors.Actor as actor
-use Rattle.ds_timers.proofs.Changed.{control_schedules, reload_leaves}
-use Rattle.gx_fifo.specs.Entries.{most_entries}
 use Rattle.gx_fifo.proofs.Laws.{written_run, written_schedules, written_waiting}
-use Rattle.ds_ports.specs.HappeningLaws.{Goes, LeavesGeometry, LeavesTransfer, HasOnlyLaterEvents}
 use Rattle.ds_ports.proofs.Covered.{are_all, read_leaves, write_leaves}
 use Rattle.ds_ports.proofs.Passed.{any_covered, any_register}
 use Rattle.ds_ports.proofs.HeldDues.{held_reschedules, stall_begins}
@@ -27,7 +25,6 @@ use Rattle.ds_ports.proofs.GxPorts.{written_last, written_longer, written_stalls
 use Rattle.ds_ports.proofs.DisplayPorts.{written_scan, written_whole}
 use Rattle.ds_ports.proofs.RegisterMaps.{some_slot}
 use Rattle.ds_ports.proofs.Told.{AreIpcAtBoth, control_ipc, raised_told, receive_ipc, send_ipc, sync_ipc, told_nothing, told_on}
-use Rattle.ds_ports.specs.RegisterMap.{numbers_of}
 
 -- Accesses make no due tick earlier, and leave each at its tick or later.
 

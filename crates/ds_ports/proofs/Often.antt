@@ -1,11 +1,7 @@
-use Rattle.ds_ports.proofs.Words.{ℕ, ◌≡◌, ◌<◌, ◌+◌, ◌*◌, ◌/◌, ◌%◌, ◌^◌, Bool, true, false, None, refl, ap, arith, Half, Word, Proc, Nine, Seven, Tick}
-use Rattle.ds_ports.proofs.Words.{part, port_read, port_refusal, port_value, port_written, with_bytes_from, slot_of, word_received, word_sent}
-use Rattle.ds_ports.proofs.Words.{IoState, io_of}
-use Rattle.ds_base.specs.Bits.{flag}
-use Rattle.ds_ipc.specs.Ipcs.{ipc_control_word, ipc_received_word, ipc_sync_word}
-use Rattle.ds_ports.specs.ProcessorIo.{keyinput_word}
+use Rattle.ds_ports.proofs.Words.{Bool, Half, IoState, Nine, None, Proc, Seven, Tick, Word, ap, arith, false, flag, io_of, ipc_control_word}
+use Rattle.ds_ports.proofs.Words.{ipc_received_word, ipc_sync_word, keyinput_word, part, port_read, port_refusal, port_value, port_written, refl}
+use Rattle.ds_ports.proofs.Words.{slot_of, status_of, true, with_bytes_from, word_received, word_sent, ℕ, ◌%◌, ◌*◌, ◌+◌, ◌/◌, ◌<◌, ◌^◌, ◌≡◌}
 use Rattle.video2d.specs.Statuses.{status_word}
-use Rattle.video2d.specs.Videos.{status_of}
 
 -- The registers that are read most, each from its first byte on: what an access of them reads, and that it leaves all as it was.
 

@@ -1,6 +1,5 @@
-use Rattle.ds_ports.proofs.Words.{ℕ, ◌≡◌, true, true≢false, refl, sym, Proc, Tick, IoState, io_of, with_io_of, after_write, Register, Dmasad, Dmadad}
-use Rattle.ds_ports.proofs.Words.{Dmacnt, TmcntL, TmcntH, Keycnt, Ime, Ie, If, Haltcnt}
-use Rattle.ds_ports.specs.Inside.{is_own, own_written}
+use Rattle.ds_ports.proofs.Words.{Dmacnt, Dmadad, Dmasad, Haltcnt, Ie, If, Ime, IoState, Keycnt, Proc, Register, Tick, TmcntH, TmcntL, after_write}
+use Rattle.ds_ports.proofs.Words.{io_of, is_own, own_written, refl, sym, true, true≢false, with_io_of, ℕ, ◌≡◌}
 
 -- A write of a register that is a processor's own changes that alone.
 

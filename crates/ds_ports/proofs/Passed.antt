@@ -1,9 +1,8 @@
-use Rattle.ds_ports.proofs.Words.{◌&&◌, not, ℕ, ◌≡◌, Bool, true, false, true≢false, if◌then◌else◌, List, [], ◌∷◌, ◌++◌, refl, sym, ◌∙◌, ap, Width}
-use Rattle.ds_ports.proofs.Words.{Proc, Nine, Seven, Tick, CardState, DmaState, DividerState, RootState, IrqState, TimerState, GxState, VideoState}
-use Rattle.ds_ports.proofs.Words.{IoState, port_read, port_written, after_write, meaning_of, Register, UnitPart, Released, IrqNine, DmaNine, among}
-use Rattle.ds_ports.proofs.Words.{beyond, changes_some, touches_none, is_part, io_graft, touch_of}
+use Rattle.ds_ports.proofs.Words.{Bool, CardState, DividerState, DmaNine, DmaState, GxState, IoState, IrqNine, IrqState, List, Nine, Proc, Register}
+use Rattle.ds_ports.proofs.Words.{Released, RootState, Seven, Tick, TimerState, UnitPart, VideoState, Width, [], after_write, among, ap, beyond}
+use Rattle.ds_ports.proofs.Words.{changes_some, false, if◌then◌else◌, io_graft, is_part, meaning_of, not, not_false, port_read, port_written, refl}
+use Rattle.ds_ports.proofs.Words.{sym, touch_of, touches_none, true, true≢false, ℕ, ◌&&◌, ◌++◌, ◌∙◌, ◌∷◌, ◌≡◌}
 use Rattle.ds_ipc.specs.Sides.{Side}
-use Rattle.ds_base.proofs.Choices.{not_false}
 use Rattle.ds_base.proofs.Parted.{Apart, Within, blind_stays, changes_by, fewer, inside, not_there}
 use Rattle.ds_base.specs.Deeds.{Changes, Done, Parted, pick}
 use Rattle.ds_ports.proofs.Covered.{Covers, Of, Passes, ReadTheSame, covers_all, read_leaves, write_leaves}

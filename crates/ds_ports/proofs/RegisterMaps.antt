@@ -1,11 +1,8 @@
-use Rattle.ds_ports.proofs.Words.{ℕ, zero, suc, ◌≡◌, ◌<◌, ◌≤◌, ◌+◌, ◌-◌, ◌/◌, ◌⊎◌, inl, inr, Bool, true, false, true≢false, ◌==◌, nat_le, nat_lt}
-use Rattle.ds_ports.proofs.Words.{if◌then◌else◌, List, [], ◌∷◌, ◌++◌, Option, Some, None, refl, sym, ◌∙◌, subst, arith, IfSome, div-lt_iff_lt-mul}
-use Rattle.ds_ports.proofs.Words.{mod-lt, both, le_of, Proc, Slot, Nine, Seven, PortRow, row_bytes, slot_in, slot_by, slot_of, register_map, IsSlot}
-use Rattle.ds_ports.proofs.Words.{slot_among}
-use Rattle.std.proofs.Common.{◌&&◌, ◌||◌}
-use Rattle.ds_base.proofs.Choices.{lt_of}
-use Rattle.ds_ports.specs.Parts.{Part, whole, looked_up, parts_of}
-use Rattle.ds_ports.specs.RegisterMap.{numbers_of}
+use Rattle.ds_ports.proofs.Words.{Bool, IfSome, IsSlot, List, Nine, None, Option, Part, PortRow, Proc, Seven, Slot, Some, [], arith, both, false}
+use Rattle.ds_ports.proofs.Words.{if◌then◌else◌, inl, inr, le_of, looked_up, lt_of, nat_le, nat_lt, numbers_of, parts_of, refl, register_map}
+use Rattle.ds_ports.proofs.Words.{row_bytes, slot_among, slot_by, slot_in, slot_of, subst, suc, sym, true, true≢false, whole, zero, ℕ, ◌&&◌, ◌++◌}
+use Rattle.ds_ports.proofs.Words.{◌+◌, ◌-◌, ◌/◌, ◌<◌, ◌==◌, ◌||◌, ◌∙◌, ◌∷◌, ◌≡◌, ◌≤◌, ◌⊎◌}
+use Rattle.std.proofs.Math.Nat.{div-lt_iff_lt-mul, mod-lt}
 
 -- all rows lie from one offset up to another
 abbrev pub lie : ℕ → ℕ → List PortRow → Bool

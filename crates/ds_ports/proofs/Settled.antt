@@ -1,14 +1,12 @@
-use Rattle.ds_ports.proofs.Words.{ℕ, ◌≡◌, ◌<◌, ◌%◌, ◌^◌, ◌==◌, max, Bool, true, false, if◌then◌else◌, bit_and, bit_or, refl, sym, ◌∙◌, ap, subst}
-use Rattle.ds_ports.proofs.Words.{arith, ◌&&◌, not, bit_at, bit_not, w32, bit_at_and, bit_at_or, same_from_bits, both, both_true, equal, is_equal}
-use Rattle.ds_ports.proofs.Words.{Proc, Nine, Seven, Raised, Tick, interrupt_bit, Keys, Word, data_port_at, read_raised, IpcState, ipc_control_raised}
-use Rattle.ds_ports.proofs.Words.{ipc_receive_raised, ipc_send_raised, ipc_sync_raised, events, level, gx_level, moves_dues, if_written}
-use Rattle.ds_ports.proofs.Words.{keycnt_written, keys_hold, kept_keycnt, processor_io_raised, after_write, meaning_of, word_received, word_sent}
-use Rattle.ds_ports.proofs.Words.{IoState, both_raised, is_settled, raised_to, UnitPart, DmaNine, IrqNine, Released, among, changes_some, Register}
-use Rattle.ds_ports.proofs.Words.{Ie, If, Ime, Ipcfifocnt, Ipcfiforecv, Ipcfifosend, Ipcsync, Keycnt, CardData}
-use Rattle.std.specs.Prelude.{List, [], ◌∷◌}
+use Rattle.ds_ports.proofs.Words.{Bool, CardData, DmaNine, Ie, If, Ime, IoState, IpcState, Ipcfifocnt, Ipcfiforecv, Ipcfifosend, Ipcsync, IrqNine}
+use Rattle.ds_ports.proofs.Words.{Keycnt, Keys, List, Nine, Proc, Raised, Register, Released, Seven, Tick, UnitPart, Word, [], after_write, among, ap}
+use Rattle.ds_ports.proofs.Words.{arith, bit_and, bit_at, bit_at-pow_other, bit_at_and, bit_at_not, bit_at_or, bit_not, bit_or, both, both_raised}
+use Rattle.ds_ports.proofs.Words.{both_true, changes_some, data_port_at, equal, events, false, gx_level, if_written, if◌then◌else◌, interrupt_bit}
+use Rattle.ds_ports.proofs.Words.{ipc_control_raised, ipc_control_written, ipc_receive_raised, ipc_received, ipc_send_raised, ipc_sent}
+use Rattle.ds_ports.proofs.Words.{ipc_sync_raised, ipc_sync_written, is_equal, is_settled, kept_keycnt, keycnt_written, keys_hold, level, max}
+use Rattle.ds_ports.proofs.Words.{meaning_of, moves_dues, not, processor_io_raised, raised_to, read_raised, refl, same_from_bits, subst, sym, true}
+use Rattle.ds_ports.proofs.Words.{w32, word_received, word_sent, ℕ, ◌%◌, ◌&&◌, ◌<◌, ◌==◌, ◌^◌, ◌∙◌, ◌∷◌, ◌≡◌}
 use Rattle.std.proofs.lemmas.Nat.{and_le_r}
-use Rattle.std.proofs.lemmas.Nat.Bits.{bit_at-pow_other, bit_at_not}
-use Rattle.ds_ipc.specs.Ipcs.{ipc_control_written, ipc_received, ipc_sent, ipc_sync_written}
 use Rattle.ds_ports.specs.Touches as touches
 use Rattle.ds_ports.proofs.Passed.{first_false, stays_by_row}
 

@@ -1,19 +1,17 @@
-use Rattle.ds_ports.proofs.Words.{ℕ, ◌≡◌, ◌≤◌, ◌+◌, ◌==◌, nat_lt, inl, inr, Bool, true, false, true≢false, if◌then◌else◌, bit_and, bit_or, length}
-use Rattle.ds_ports.proofs.Words.{max, Option, Some, None, refl, sym, ◌∙◌, ap, subst, arith, ◌&&◌, ◌||◌, not, bit_not, w32, bit_at_and, bit_at_or}
-use Rattle.ds_ports.proofs.Words.{same_from_bits, both, both_true, equal, is_equal, IsLater, Reschedules, Proc, Nine, Seven, Tick, ready, DmaState}
-use Rattle.ds_ports.proofs.Words.{any_runs, awaits_geometry, channel_at, channel_due, dma_due, due_with, least_running, DmaDue, event_schedules}
-use Rattle.ds_ports.proofs.Words.{dma_triggered_is, event_runs, Timer, Geometry, Dma, IrqState, irq_levelled, level, GeometryCommand}
-use Rattle.ds_ports.proofs.Words.{complete_command, entries_taken, AreWaiting, GxState, done_by, gx_finished, gx_level, is_half_empty, is_stalled}
-use Rattle.ds_ports.proofs.Words.{Banks, held_due, io_due, released_at, IsIo, IsUnchanged, ReschedulesEach, blocks_processor, processor_io_triggered}
-use Rattle.ds_ports.proofs.Words.{IoState, geometry_done, geometry_swapped, geometry_triggered, io_of, is_settled, level_told, release_by}
-use Rattle.ds_ports.proofs.Words.{release_kept, release_of, settled, stall_ends, tick_after, with_halted}
+use Rattle.ds_ports.proofs.Words.{AreWaiting, Banks, Bool, Dma, DmaDue, DmaState, Geometry, GeometryCommand, GxState, IoState, IrqState, IsIo}
+use Rattle.ds_ports.proofs.Words.{IsLater, IsUnchanged, Nine, None, Option, Proc, Reschedules, ReschedulesEach, Seven, Some, Tick, Timer, any_runs}
+use Rattle.ds_ports.proofs.Words.{ap, arith, awaits_geometry, bit_and, bit_at_and, bit_at_or, bit_not, bit_or, blocks_processor, both, both_true}
+use Rattle.ds_ports.proofs.Words.{channel_at, channel_comes_before, channel_due, complete_command, dma_due, dma_triggered_is, done_by, due_with}
+use Rattle.ds_ports.proofs.Words.{entries_taken, equal, event_runs, event_schedules, false, geometry_done, geometry_swapped, geometry_triggered}
+use Rattle.ds_ports.proofs.Words.{gx_level, held_due, if◌then◌else◌, inl, inr, io_due, io_of, irq_levelled, is_equal, is_half_empty, is_held}
+use Rattle.ds_ports.proofs.Words.{is_settled, is_stalled, least_running, length, length-drop, level, level_told, max, nat_lt, not}
+use Rattle.ds_ports.proofs.Words.{processor_io_triggered, ready, refl, release_by, release_kept, release_of, released_at, same_from_bits, settled}
+use Rattle.ds_ports.proofs.Words.{stall_ends, subst, sym, tick_after, true, true≢false, w32, with_halted, ℕ, ◌&&◌, ◌+◌, ◌==◌, ◌||◌, ◌∙◌, ◌≡◌, ◌≤◌}
+use Rattle.gx_fifo.specs.GxStates.{gx_finished, AddsOneVertex, gx_swapped}
 use Rattle.std.proofs.Math.Nat.{le-max_left}
-use Rattle.std.proofs.lemmas.List.{length-drop}
 use Rattle.ds_dma.specs.declared.controls.Cause.TheVariants as causes
 use Rattle.ds_dma.proofs.Wholes.{awaits_no_more, awaits_none}
-use Rattle.gx_fifo.specs.GxStates.{AddsOneVertex, gx_swapped}
 use Rattle.gx_fifo.proofs.Laws.{finished_later, finished_run, finished_waiting, swapped_schedules, swapped_waiting}
-use Rattle.ds_ports.specs.Io.{channel_comes_before, is_held}
 use Rattle.ds_ports.proofs.Later.{ProcessorIoReschedules, processor_io_each, unchanged_same}
 use Rattle.ds_ports.proofs.HeldDues.{none_kept}
 use Rattle.ds_ports.proofs.Events.{Happens, happens_by, happens_on, own_is, unchanged_happens}

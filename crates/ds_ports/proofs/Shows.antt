@@ -1,8 +1,7 @@
-use Rattle.ds_ports.proofs.Words.{ℕ, ◌≡◌, List, Option, Some, None, refl, sym, ◌∙◌, ap, arith, Stop, Tick, scan_due_tick, VideoState, unless_stop}
-use Rattle.ds_ports.proofs.Words.{video_after_event, video_happened, video_shown, video_stop, Shown, IoState, both_raised, channels_shown}
-use Rattle.ds_ports.proofs.Words.{shown_to_others, video_done}
+use Rattle.ds_ports.proofs.Words.{IoState, List, None, Option, Shown, Some, Stop, Tick, VideoState, ap, arith, both_raised, channels_shown, refl}
+use Rattle.ds_ports.proofs.Words.{scan_due_tick, shown_to_others, sym, unless_stop, video_done, video_happened, video_shown, video_stop, ℕ, ◌∙◌, ◌≡◌}
+use Rattle.video2d.specs.Videos.{video_after_event, answer_unless, video_answer}
 use Rattle.std.proofs.Common.{Ok, Err}
-use Rattle.video2d.specs.Videos.{answer_unless, video_answer}
 
 -- What the display's event leaves, by what it answers.
 

@@ -1,14 +1,13 @@
-use Rattle.ds_ports.proofs.Words.{◌&&◌, ◌||◌, not, ℕ, ◌≡◌, ◌==◌, Bool, true, false, true≢false, if◌then◌else◌, List, Option, None, Some, is_some}
-use Rattle.ds_ports.proofs.Words.{refl, sym, ◌∙◌, ap, both, equal, Proc, Nine, Seven, Tick, Channel, is_triggered, is_enabled, waits_for}
-use Rattle.ds_ports.proofs.Words.{DmaState, awaits_geometry, channel_at, dma_due, Geometry, irq_levelled, GxState, gx_finished, gx_level, gx_written}
-use Rattle.ds_ports.proofs.Words.{is_half_empty, is_stalled, acting_io_due, first_acting_io_due, is_armed, is_silent, first_with, IoState}
-use Rattle.ds_ports.proofs.Words.{geometry_done, io_event, is_settled, release_by, with_gx, after_write, Register, GxWord, GxCommand}
-use Rattle.ds_base.proofs.Choices.{and_false, not_true}
-use Rattle.ds_dma.specs.Channels.{is_running}
+use Rattle.ds_ports.proofs.Words.{Bool, Channel, DmaState, Geometry, GxCommand, GxState, GxWord, IoState, List, Nine, None, Option, Proc, Register}
+use Rattle.ds_ports.proofs.Words.{Seven, Some, Tick, acting_io_due, after_write, and_false, any_armed, ap, awaits_geometry, both, channel_at, dma_due}
+use Rattle.ds_ports.proofs.Words.{equal, false, first_acting_io_due, first_with, geometry_done, gx_level, gx_written, if◌then◌else◌, io_event}
+use Rattle.ds_ports.proofs.Words.{irq_levelled, is_armed, is_half_empty, is_of_geometry, is_settled, is_silent, is_some, is_stalled, not, not_true}
+use Rattle.ds_ports.proofs.Words.{refl, release_by, sym, true, true≢false, with_gx, ℕ, ◌&&◌, ◌==◌, ◌||◌, ◌∙◌, ◌≡◌}
+use Rattle.ds_dma.specs.Channels.{is_triggered, is_running}
+use Rattle.ds_dma.specs.Controls.{is_enabled, waits_for}
+use Rattle.gx_fifo.specs.GxStates.{gx_finished}
 use Rattle.ds_dma.specs.declared.controls.Cause.TheVariants as causes
 use Rattle.ds_runs.specs.declared.actors.Actor as actor
-use Rattle.ds_ports.specs.Acting.{any_armed}
-use Rattle.ds_ports.specs.Inside.{is_of_geometry}
 
 -- Where nobody hears of what geometry does, before and after, its event and the words that it is given change neither which actor acts first nor
 -- whether something is left to settle.

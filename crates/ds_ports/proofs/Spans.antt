@@ -1,6 +1,5 @@
-use Rattle.std.proofs.Common.{ℕ, ◌≡◌, ◌<◌, ◌≤◌, ◌+◌, ◌-◌, ◌⊎◌, Bool, true, false, ◌&&◌, nat_le, nat_lt, List, [], ◌∷◌, None, refl, arith}
-use Rattle.ds_ports.specs.RegisterMap.{PortRow, row_bytes, slot_by}
-use Rattle.ds_base.proofs.Choices.{both, le_of}
+use Rattle.ds_ports.proofs.Words.{Bool, List, None, PortRow, [], arith, both, false, le_of, nat_le, nat_lt, refl, row_bytes, slot_by, true, ℕ, ◌&&◌}
+use Rattle.ds_ports.proofs.Words.{◌+◌, ◌-◌, ◌<◌, ◌∷◌, ◌≡◌, ◌≤◌, ◌⊎◌}
 
 -- The rows of a map rise, so that an offset lies in one of them at most.
 

@@ -1,9 +1,7 @@
-use Rattle.ds_ports.proofs.Words.{ℕ, ◌≡◌, ◌<◌, ◌≤◌, ◌+◌, ◌-◌, ◌*◌, ◌/◌, ◌%◌, ◌==◌, inl, inr, Bool, true, false, if◌then◌else◌, nat_le, nat_lt, List}
-use Rattle.ds_ports.proofs.Words.{[], ◌∷◌, Option, Some, None, refl, sym, ◌∙◌, ap, subst, arith, IfSome, div-lt_iff_lt-mul, mod-lt, none-some}
-use Rattle.ds_ports.proofs.Words.{same_Some, Proc, Nine, Seven, IsWidth, PortRow, StandsWhole, register_map, row_bytes, slot_by, slot_in, slot_of}
-use Rattle.ds_ports.proofs.Words.{Slot, both, le_of}
-use Rattle.std.proofs.Common.{◌||◌, ◌&&◌}
-use Rattle.std.proofs.Math.Nat.{add-mul-mod_self_right, mul-le-mul_right}
+use Rattle.ds_ports.proofs.Words.{Bool, IfSome, IsWidth, List, Nine, None, Option, PortRow, Proc, Seven, Slot, Some, StandsWhole, [], ap, arith, both}
+use Rattle.ds_ports.proofs.Words.{false, if◌then◌else◌, inl, inr, le_of, nat_le, nat_lt, none-some, refl, register_map, row_bytes, same_Some, slot_by}
+use Rattle.ds_ports.proofs.Words.{slot_in, slot_of, subst, sym, true, ℕ, ◌%◌, ◌&&◌, ◌*◌, ◌+◌, ◌-◌, ◌/◌, ◌<◌, ◌==◌, ◌||◌, ◌∙◌, ◌∷◌, ◌≡◌, ◌≤◌}
+use Rattle.std.proofs.Math.Nat.{div-lt_iff_lt-mul, mod-lt, add-mul-mod_self_right, mul-le-mul_right}
 use Rattle.std.proofs.lemmas.Nat.{div-add-mod', div-mul-add, mod-mul-add}
 use Rattle.ds_ports.proofs.Spans.{lies, none_before, rise}
 

@@ -1,12 +1,9 @@
-use Rattle.ds_ports.proofs.Words.{ℕ, ◌≡◌, ◌+◌, Bool, true, false, max, bit_or, refl, sym, ◌∙◌, ap, arith, bit_at, bit_at_or, same_from_bits, ◌&&◌}
-use Rattle.ds_ports.proofs.Words.{◌||◌, bit, Proc, Nine, Seven, Raised, IpcState, ipc_control_raised, ipc_receive_raised, ipc_send_raised}
-use Rattle.ds_ports.proofs.Words.{ipc_sync_raised, other_proc, IrqState, events, IsTold}
+use Rattle.ds_ports.proofs.Words.{Bool, IpcState, IpcSync, IrqState, Nine, Proc, Raised, ReceiveFifoNotEmpty, SendFifoEmpty, Seven, ap, arith, bit}
+use Rattle.ds_ports.proofs.Words.{bit_at, bit_at_or, bit_or, events, false, ipc_control_raised, ipc_receive_raised, ipc_send_raised, ipc_sync_raised}
+use Rattle.ds_ports.proofs.Words.{irq_raised, max, other_proc, refl, same_from_bits, side_of, sym, true, ℕ, ◌&&◌, ◌+◌, ◌||◌, ◌∙◌, ◌≡◌}
+use Rattle.ds_ports.specs.HappeningLaws.{IsTold, ipc_bits}
 use Rattle.ds_base.specs.Processors.{raised_at}
-use Rattle.ds_base.specs.declared.interrupts.Interrupt.TheVariants.{IpcSync, SendFifoEmpty, ReceiveFifoNotEmpty}
-use Rattle.ds_ipc.specs.Ipcs.{side_of}
 use Rattle.ds_ipc.specs.Sides.{clear_empties, control_raised, enable_rises_on_empty, enable_rises_on_filled, is_empty, raised_if, receive_empties, receive_raised, send_raised, sync_raised}
-use Rattle.ds_timers.specs.Irqs.{irq_raised}
-use Rattle.ds_ports.specs.HappeningLaws.{ipc_bits}
 
 -- What one processor tells the other by the IPC interrupts.
 

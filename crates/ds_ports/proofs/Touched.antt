@@ -1,6 +1,6 @@
-use Rattle.ds_ports.proofs.Words.{ℕ, ◌≡◌, ◌==◌, ◌%◌, ◌^◌, Bool, true, false, if◌then◌else◌, List, ◌∷◌, ◌++◌, refl, bits, interrupt_bit, Keys, Proc}
-use Rattle.ds_ports.proofs.Words.{Nine, Seven, Tick, IoState, io_of, with_io_of, ProcessorIoState, kept_keycnt, keys_hold, processor_io_raised}
-use Rattle.ds_ports.proofs.Words.{after_write, meaning_of, UnitPart, beyond, io_graft, touch_of, Register, Haltcnt, Ie, Keycnt}
+use Rattle.ds_ports.proofs.Words.{Bool, Haltcnt, Ie, IoState, Keycnt, Keys, List, Nine, Proc, ProcessorIoState, Register, Seven, Tick, UnitPart}
+use Rattle.ds_ports.proofs.Words.{after_write, beyond, bits, false, if◌then◌else◌, interrupt_bit, io_graft, io_of, kept_keycnt, keys_hold, meaning_of}
+use Rattle.ds_ports.proofs.Words.{processor_io_raised, refl, touch_of, true, with_io_of, ℕ, ◌%◌, ◌++◌, ◌==◌, ◌^◌, ◌∷◌, ◌≡◌}
 use Rattle.ds_ports.specs.Touches.{Card, both_sides}
 
 -- Each row of the table of what registers touch is true: by computing, but for two that choose all that a processor has of its own.

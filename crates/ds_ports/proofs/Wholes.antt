@@ -1,9 +1,8 @@
-use Rattle.ds_ports.proofs.Words.{ℕ, ◌≡◌, ◌<◌, ◌≤◌, ◌+◌, ◌^◌, nat_le, Bool, true, false, Option, Some, None, refl, ap, subst, arith, width_bytes}
-use Rattle.ds_ports.proofs.Words.{Width, Byte, Half, Word, Proc, Tick, gx_port, GxState, IsGx, gx_kept, kept_port, GxPort, Display, Status}
-use Rattle.ds_ports.proofs.Words.{port_read, port_refusal, port_value, port_written, slot_refusal, slot_value, slot_written, unless_stopped, whole_if}
-use Rattle.ds_ports.proofs.Words.{whole_in, with_bytes_from, slot_of, after_write, meaning_of, IoState, GxCommand, Slot}
-use Rattle.std.specs.Prelude.{not}
-use Rattle.ds_card.specs.Cards.{is_whole_word}
+use Rattle.ds_ports.proofs.Words.{Bool, Byte, GxCommand, GxPort, GxState, Half, IoState, IsGx, None, Option, Proc, Slot, Some, Tick, Width, Word}
+use Rattle.ds_ports.proofs.Words.{after_write, ap, arith, false, gx_kept, gx_port, is_whole_word, kept_port, meaning_of, nat_le, not, port_read}
+use Rattle.ds_ports.proofs.Words.{port_refusal, port_value, port_written, refl, slot_of, slot_refusal, slot_value, slot_written, subst, true}
+use Rattle.ds_ports.proofs.Words.{unless_stopped, whole_if, whole_in, width_bytes, with_bytes_from, ℕ, ◌+◌, ◌<◌, ◌^◌, ◌≡◌, ◌≤◌}
+use Rattle.gx_fifo.specs.declared.ports.GxPort.TheVariants.{Display, Status}
 
 -- An access that lies in one register, whatever its width.
 

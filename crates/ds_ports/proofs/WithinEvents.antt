@@ -1,26 +1,22 @@
-use Rattle.ds_ports.proofs.Words.{ℕ, ◌≡◌, ◌<◌, ◌≤◌, ◌+◌, Bool, false, if◌then◌else◌, List, Option, Some, None, refl, sym, ◌∙◌, ap, subst, arith}
-use Rattle.ds_ports.proofs.Words.{IsSome, either, Stop, Proc, Nine, Seven, Tick, CardState, card_after_event, card_due, card_starter, event_readies}
-use Rattle.ds_ports.proofs.Words.{event_ends, DmaState, dma_due, most_waits, Cause, VBlank, HBlank, KeyScript, Video, Timer, Divider, SquareRoot}
-use Rattle.ds_ports.proofs.Words.{Geometry, Card, Dma, Processor, irq_levelled, overflow_of, timer_at, timer_due, GeometryState, no_swap}
-use Rattle.ds_ports.proofs.Words.{GeometryCommand, complete_command, entries_taken, GxState, done_by, gx_level, is_half_empty, stays_video, IsVideo}
-use Rattle.ds_ports.proofs.Words.{ScanState, scan_after, scan_before, scan_due, scan_due_tick, video_happened, video_shown, video_stop, unless_stop}
-use Rattle.ds_ports.proofs.Words.{Shown, io_due, IoState, both_raised, card_done, card_done_at, channel_moved, channels_shown, channels_triggered}
-use Rattle.ds_ports.proofs.Words.{geometry_done, geometry_swapped, geometry_triggered, io_event, io_of, keys_pressed, level_told}
-use Rattle.ds_ports.proofs.Words.{raised_to, release_kept, release_of, settled, shown_to_others, stall_ends, starter_told, tick_after}
-use Rattle.ds_ports.proofs.Words.{timer_overflows, told_of_card, video_done, with_halted, with_io_of, keys_told, processor_io_raised}
-use Rattle.ds_ports.proofs.Words.{processor_io_triggered, IsBy, IsSoonBy, OwnIsWithinTick, IsProcessorIo}
-use Rattle.std.proofs.Common.{drop}
-use Rattle.ds_card.specs.Cards.{event_raised}
+use Rattle.ds_ports.proofs.Words.{Bool, CardState, Cause, Dma, DmaState, Geometry, GeometryCommand, GxState, HBlank, IoState, IsProcessorIo, IsSome}
+use Rattle.ds_ports.proofs.Words.{IsVideo, List, Nine, None, Option, Proc, ScanState, Seven, Shown, Some, Stop, Tick, Timer, VBlank, Video, ap, arith}
+use Rattle.ds_ports.proofs.Words.{asks_for_swap, both_raised, card_after_event, card_done, card_done_at, card_due, card_starter, channel_moved}
+use Rattle.ds_ports.proofs.Words.{channels_shown, channels_triggered, complete_command, division_finished, dma_due, done_by, drop, either}
+use Rattle.ds_ports.proofs.Words.{entries_taken, event_ends, event_raised, event_readies, false, geometry_done, geometry_swapped, geometry_triggered}
+use Rattle.ds_ports.proofs.Words.{gx_level, if◌then◌else◌, io_due, io_event, io_of, irq_levelled, is_half_empty, keys_pressed, keys_told, level_told}
+use Rattle.ds_ports.proofs.Words.{most_waits, overflow_of, processor_io_raised, processor_io_triggered, raised_to, refl, release_kept, release_of}
+use Rattle.ds_ports.proofs.Words.{root_finished, scan_after, scan_before, scan_due, scan_due_tick, settled, shown_to_others, stall_ends, starter_told}
+use Rattle.ds_ports.proofs.Words.{stays_video, subst, sym, tick_after, timer_at, timer_due, timer_overflows, told_of_card, unless_stop, video_done}
+use Rattle.ds_ports.proofs.Words.{video_happened, video_shown, video_stop, with_halted, with_io_of, words_taken, ℕ, ◌+◌, ◌<◌, ◌∙◌, ◌≡◌, ◌≤◌}
+use Rattle.ds_runs.specs.declared.actors.Actor.TheVariants.{KeyScript, Divider, SquareRoot, Card, Processor}
+use Rattle.gx_geometry.specs.States.{GeometryState, no_swap, geometry_after, swapped}
+use Rattle.ds_ports.specs.WithinLaws.{IsBy, IsSoonBy, OwnIsWithinTick}
 use Rattle.ds_dma.specs.declared.controls.Cause.TheVariants as causes
 use Rattle.ds_runs.specs.declared.actors.Actor as actor
-use Rattle.gx_geometry.specs.States.{geometry_after, swapped}
-use Rattle.gx_fifo.specs.Entries.{asks_for_swap, words_taken}
 use Rattle.video2d.proofs.SavedScans.{scans_follow}
 use Rattle.ds_ports.proofs.Events.{HasEvent, happened_scan}
 use Rattle.ds_ports.proofs.WithinOwn.{OwnStays, alike, overflow_own, raised_own, told_own, triggered_own, unit_own}
 use Rattle.ds_ports.proofs.WithinPorts.{Stays, begun_soon, beside, beside_all, other_video, own_stays, raised_both, with_own}
-use Rattle.ds_math.specs.Dividers.{division_finished}
-use Rattle.ds_math.specs.Roots.{root_finished}
 
 -- Events at a tick below a limit, and settling after a step, keep the units within it.
 

@@ -1,25 +1,18 @@
-use Rattle.ds_ports.proofs.Words.{ℕ, zero, suc, ◌≡◌, ◌<◌, ◌≤◌, ◌^◌, inl, inr, Bool, true, false, if◌then◌else◌, List, slice_set, bit_and, bit_or}
-use Rattle.ds_ports.proofs.Words.{Option, Some, None, refl, sym, ◌∙◌, ap, subst, arith, ◌&&◌, not, is_some, IsSome, bit_at, bit_not, w32, bit_at_and}
-use Rattle.ds_ports.proofs.Words.{bit_at_or, same_from_bits, either, equal, interrupt_bit, Keys, Stop, Proc, Tick, Channel, after_unit}
-use Rattle.ds_ports.proofs.Words.{is_last_of_burst, is_last_unit, is_triggered, triggered, is_armed_again, is_enabled, DmaState, IsDma, channel_at}
-use Rattle.ds_ports.proofs.Words.{dma_due, dma_finished, dma_triggered, due_channel, least_running, most_waits, Cause, DmaPort, Source, Target}
-use Rattle.ds_ports.proofs.Words.{Control, channel_written_is, dma_finished_is, dma_triggered_is, events, level, TimerState, AreTimers, control_set}
-use Rattle.ds_ports.proofs.Words.{kept_control, overflow_of, reload_set, timer_at, timer_due, control_set_is, reload_set_is, overflow_keeps}
-use Rattle.ds_ports.proofs.Words.{IsProcessorIo, ProcessorIoState, processor_io_moved, processor_io_raised, processor_io_triggered, dma_written}
-use Rattle.ds_ports.proofs.Words.{if_written, kept_keycnt, keys_hold, keys_told, IsBy, OwnIsWithinTick}
-use Rattle.std.proofs.Common.{get_or-set_other}
-use Rattle.std.specs.Prelude.{◌==◌}
-use Rattle.ds_base.proofs.Choices.{either_by, same_or_not}
-use Rattle.ds_dma.specs.Channels.{channel_refusal, channel_set}
-use Rattle.ds_dma.specs.Controls.{kept_channel_control, starts_immediately}
-use Rattle.ds_dma.specs.States.{channel_written}
+use Rattle.ds_ports.proofs.Words.{AreTimers, Bool, Cause, Channel, Control, DmaPort, DmaState, IsDma, IsProcessorIo, IsSome, Keys, List, None, Option}
+use Rattle.ds_ports.proofs.Words.{Proc, ProcessorIoState, Some, Source, Stop, Target, Tick, TimerState, ap, arith, bit_and, bit_at, bit_at_and}
+use Rattle.ds_ports.proofs.Words.{bit_at_or, bit_not, bit_or, channel_at, channel_written, channel_written_is, control_set, dma_due, dma_finished}
+use Rattle.ds_ports.proofs.Words.{dma_finished_is, dma_triggered, dma_triggered_is, dma_written, due_channel, either, either_by, equal, events, false}
+use Rattle.ds_ports.proofs.Words.{get_or-set_other, if_written, if◌then◌else◌, inl, inr, interrupt_bit, interrupts_of, is_some, kept_control}
+use Rattle.ds_ports.proofs.Words.{kept_keycnt, keys_hold, keys_told, least_below, least_running, level, most_waits, not, overflow_keeps, overflow_of}
+use Rattle.ds_ports.proofs.Words.{processor_io_moved, processor_io_raised, processor_io_triggered, refl, reload_set, same_from_bits, same_or_not}
+use Rattle.ds_ports.proofs.Words.{set_same, slice_set, subst, suc, sym, timer_at, timer_due, true, w32, zero, ℕ, ◌&&◌, ◌<◌, ◌==◌, ◌^◌, ◌∙◌, ◌≡◌, ◌≤◌}
+use Rattle.ds_dma.specs.Channels.{after_unit, is_last_of_burst, is_last_unit, is_triggered, triggered, channel_refusal, channel_set}
+use Rattle.ds_dma.specs.Controls.{is_armed_again, is_enabled, kept_channel_control, starts_immediately}
+use Rattle.ds_timers.proofs.Changed.{control_set_is, reload_set_is}
+use Rattle.ds_ports.specs.WithinLaws.{IsBy, OwnIsWithinTick, ChannelsAreBy}
 use Rattle.ds_dma.proofs.Fours.{at_mapped, set_holds}
-use Rattle.ds_dma.proofs.Turns.{least_below}
-use Rattle.ds_timers.specs.Irqs.{interrupts_of}
 use Rattle.ds_timers.specs.Timing.{after_overflow, carries, controlled, is_start, overflows, pace, runs_free}
-use Rattle.ds_timers.proofs.Four.{set_same}
 use Rattle.ds_ports.specs.ProcessorIo.{ie_written}
-use Rattle.ds_ports.specs.WithinLaws.{ChannelsAreBy}
 
 -- What happens below a tick keeps what a processor has of its own within it.
 

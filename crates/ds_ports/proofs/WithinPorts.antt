@@ -1,22 +1,20 @@
-use Rattle.ds_ports.proofs.Words.{ℕ, ◌≡◌, ◌<◌, ◌≤◌, ◌+◌, ◌%◌, ◌^◌, Bool, true, false, List, Option, Some, None, refl, sym, ◌∙◌, ap, subst, arith}
-use Rattle.ds_ports.proofs.Words.{either, bits, Width, Half, Word, Proc, Nine, Seven, Raised, Tick, data_port_at, CardState, card_after_read}
-use Rattle.ds_ports.proofs.Words.{card_due, card_written, read_raised, Source, Target, Control, IpcState, division_ticks, Swapped, no_swap}
-use Rattle.ds_ports.proofs.Words.{command_of, command_row, GeometryCommand, GxEntry, GxPort, Display, Fifo, Direct, Status, Lengths, Position, Vector}
-use Rattle.ds_ports.proofs.Words.{Clip, VectorMatrix, Unlisted, complete_command, gx_port, GxState, write_port, entry_added, IsVideo, scan_before}
-use Rattle.ds_ports.proofs.Words.{VideoState, video_written, stays_video, IsProcessorIo, IoState, both_raised, io_of, raised_to, with_io_of}
-use Rattle.ds_ports.proofs.Words.{port_read, port_written, ProcessorIoState, haltcnt_written, kept_keycnt, processor_io_raised, IsSlot, after_write}
-use Rattle.ds_ports.proofs.Words.{card_set, card_word_taken, gx_set, meaning_of, IsSoonBy, OwnIsWithinTick, Register, DisplayHalf, DisplayWord}
-use Rattle.ds_ports.proofs.Words.{Dmasad, Dmadad, Dmacnt, TmcntL, TmcntH, Keycnt, Ipcsync, Ipcfifocnt, Ipcfifosend, Ipcfiforecv, Ime, Ie, If, Divcnt}
-use Rattle.ds_ports.proofs.Words.{DivNumer, DivDenom, Sqrtcnt, SqrtParam, GxWord, GxCommand, Auxspicnt, CardWord, CardData, Haltcnt}
-use Rattle.std.proofs.Common.{option_map}
-use Rattle.std.specs.Prelude.{◌==◌}
+use Rattle.ds_ports.proofs.Words.{Auxspicnt, Bool, CardData, CardState, CardWord, Control, DisplayHalf, DisplayWord, DivDenom, DivNumer, Divcnt}
+use Rattle.ds_ports.proofs.Words.{Dmacnt, Dmadad, Dmasad, GeometryCommand, GxCommand, GxEntry, GxPort, GxState, GxWord, Half, Haltcnt, Ie, If, Ime}
+use Rattle.ds_ports.proofs.Words.{IoState, IpcState, Ipcfifocnt, Ipcfiforecv, Ipcfifosend, Ipcsync, IsProcessorIo, IsSlot, IsVideo, Keycnt, List}
+use Rattle.ds_ports.proofs.Words.{Nine, None, Option, Proc, ProcessorIoState, Raised, Register, Seven, Some, Source, SqrtParam, Sqrtcnt, Target, Tick}
+use Rattle.ds_ports.proofs.Words.{TmcntH, TmcntL, VideoState, Width, Word, after_write, ap, arith, begun, bits, both_raised, card_after_read}
+use Rattle.ds_ports.proofs.Words.{card_due, card_set, card_word_taken, card_written, complete_command, data_port_at, division_ticks, done_after}
+use Rattle.ds_ports.proofs.Words.{either, false, gx_port, gx_set, haltcnt_written, io_of, kept_keycnt, meaning_of, numbers_of, option_map, option_or}
+use Rattle.ds_ports.proofs.Words.{port_read, port_written, processor_io_raised, raised_to, read_makes, read_raised, refl, scan_before, stays_video}
+use Rattle.ds_ports.proofs.Words.{subst, sym, true, video_written, with_io_of, write_makes, write_port, ℕ, ◌%◌, ◌+◌, ◌<◌, ◌==◌, ◌^◌, ◌∙◌, ◌≡◌, ◌≤◌}
+use Rattle.gx_geometry.specs.States.{Swapped, no_swap}
+use Rattle.gx_matrix.specs.CommandTable.{command_of, command_row}
+use Rattle.gx_fifo.specs.declared.ports.GxPort.TheVariants.{Display, Fifo, Direct, Status, Lengths, Position, Vector, Clip, VectorMatrix, Unlisted}
+use Rattle.gx_fifo.specs.PackedWords.{entry_added, word_taken}
+use Rattle.ds_ports.specs.WithinLaws.{IsSoonBy, OwnIsWithinTick, AreWithinTick}
 use Rattle.ds_card.specs.Cards.{next_due, next_word_after}
 use Rattle.ds_card.specs.declared.cards.Transfer.{Transfer}
-use Rattle.ds_card.proofs.Schedules.{read_makes, write_makes}
 use Rattle.gx_matrix.specs.declared.commands.GeometryCommand.TheVariants.{MtxMode}
-use Rattle.gx_fifo.specs.Entries.{begun, done_after}
-use Rattle.gx_fifo.specs.PackedWords.{word_taken}
-use Rattle.ds_ports.specs.WithinLaws.{AreWithinTick}
 use Rattle.ds_ports.proofs.Covered.{are_all, read_leaves, write_leaves}
 use Rattle.ds_ports.proofs.DisplayPorts.{written_scan}
 use Rattle.ds_ports.proofs.GxPorts.{written_last}
@@ -24,8 +22,6 @@ use Rattle.ds_ports.proofs.Later.{each_processor_io}
 use Rattle.ds_ports.proofs.Passed.{any_covered, any_register}
 use Rattle.ds_ports.proofs.RegisterMaps.{some_slot}
 use Rattle.ds_ports.proofs.WithinOwn.{OwnStays, acked_own, alike, chosen_own, control_own, enabled_own, port_own, raised_own, reload_own, told_own}
-use Rattle.ds_ports.specs.RegisterMap.{numbers_of}
-use Rattle.std.specs.Option.{option_or}
 
 -- Accesses at a tick below a limit keep the units within it.
 

@@ -1,24 +1,21 @@
-use Rattle.std.proofs.Common.{ℕ, ◌≡◌, ◌⊎◌, inl, inr, Bool, true, false, List, [], Option, Some, None, is_some, refl, sym, ◌∙◌, ap}
+use Rattle.gdb_session.proofs.Words.{ComesFrom, ConsoleState, List, MachineState, Shown, ap, reference_step, sym, ℕ, ◌∙◌, ◌≡◌}
+use Rattle.std.proofs.Common.{◌⊎◌, inl, inr, Bool, true, false, [], Option, Some, None, is_some, refl}
 use Rattle.ds_base.specs.declared.left_out.LeftOut.{LeftOut}
 use Rattle.ds_base.specs.declared.processors.Proc.{Proc}
 use Rattle.ds_runs.specs.Runs.{MachineStep, Makes, Stops}
 use Rattle.ds_machine.specs.Hearing.{geometry_rank}
 use Rattle.ds_machine.specs.Lagging.{CatchesUpIf, TakesGeometry, more_geometry, no_geometry, observes_by}
 use Rattle.ds_machine.specs.Private.{rank_of}
-use Rattle.ds_machine.specs.Reference.{Shown, reference_step}
-use Rattle.ds_machine.specs.States.{MachineState}
 use Rattle.ds_machine.specs.Statuses.{left_by}
 use Rattle.ds_machine.specs.Steps.{processor_of}
 use Rattle.ds_machine.specs.TurnSteps.{TakesSteps, more_steps, no_steps}
 use Rattle.ds_machine.proofs.Files.{steps_keep_file}
 use Rattle.ds_runs.specs.Actors.{actor_of}
-use Rattle.run_ahead.specs.Consoles.{ConsoleState}
 use Rattle.run_ahead.specs.Turns.{Acts, HasTurned, MeetsStop, TakesEvent, TakesQuiet, TakesStretch, Turns, no_turn, one_turn}
 use Rattle.run_ahead.specs.ToEndLaws.{TurnsOn, no_turn_on, one_turn_on}
 use Rattle.run_ahead.specs.TurnLaws.{TurnsUpTo}
 use Rattle.run_ahead.specs.declared.turns.Turned.{Turned}
 use Rattle.run_ahead.specs.declared.turns.Turned.TheVariants.{AtEnd, Frame, Ran, Stopped}
-use Rattle.gdb_session.specs.Tapes.{ComesFrom}
 
 -- Turns one after another are turns, and none of them changes the cartridge's file.
 

@@ -1,22 +1,18 @@
-use Rattle.std.proofs.Common.{ℕ, zero, suc, ◌≡◌, ◌<◌, List, [], ◌∷◌, ◌++◌, length, All, Contains, Err, Ok, Result, None, get_or, take, drop, refl, sym, subst, ◌∙◌, ap, arith}
+use Rattle.gdb_session.proofs.Words.{All, ComesFrom, ComesFromBoot, ConsoleState, Contains, IsOfOneRun, IsSaveOf, List, MachineState, TapeState, ap}
+use Rattle.gdb_session.proofs.Words.{arith, boot_of, dues_of, machine_booted, reference, remove, subst, sym, take, ℕ, ◌∙◌, ◌≡◌}
+use Rattle.std.proofs.Common.{zero, suc, ◌<◌, [], ◌∷◌, ◌++◌, length, Err, Ok, Result, None, get_or, drop, refl}
 use Rattle.std.proofs.lemmas.List.{get_or_default, length-append}
 use Rattle.std.proofs.Math.ListN.{get_or-append}
 use Rattle.std.proofs.Math.Seq.{get_or-append_seam}
 use Rattle.std.proofs.lemmas.List.Elements.{All-append, All-drop, All-take}
-use Rattle.std.specs.Prelude.{remove}
 use Rattle.ds_base.specs.declared.keys.KeyLine.{KeyLine}
 use Rattle.ds_runs.specs.Runs.{At, IsOver, Runs, over}
-use Rattle.ds_machine.specs.Booted.{machine_booted}
-use Rattle.ds_machine.specs.Reference.{dues_of, reference}
 use Rattle.ds_machine.specs.Saved.{script_from}
 use Rattle.ds_machine.specs.Sound.{HasSoundParts, IsSound}
-use Rattle.ds_machine.specs.States.{MachineState}
 use Rattle.ds_machine.specs.WithinLaws.{IsWithinTick, RunsKeepScript, RunsStayWithinTick}
 use Rattle.ds_machine.proofs.Booting.{booted_stays, from_start}
-use Rattle.run_ahead.specs.Consoles.{ConsoleState}
 use Rattle.run_ahead.specs.Saved.{IsReadBack, read_state}
 use Rattle.run_ahead.specs.ToEndLaws.{TurnsKeepRuns}
-use Rattle.gdb_session.specs.Tapes.{ComesFrom, ComesFromBoot, IsSaveOf, IsOfOneRun, TapeState, boot_of}
 use Rattle.gdb_session.specs.declared.saves.Save.{Save}
 use Rattle.gdb_session.proofs.Coming.{came_file, comes_on, stays}
 

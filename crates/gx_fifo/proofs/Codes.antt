@@ -1,9 +1,6 @@
-use Rattle.std.proofs.Common.{ℕ, ◌≡◌, ◌<◌, inl, inr, true, true≢false, List, [], ◌∷◌, Some, is_some, refl, sym, arith}
-use Rattle.std.specs.Prelude.{unwrap_or}
+use Rattle.gx_fifo.proofs.Words.{GeometryCommand, List, MtxMode, Some, [], arith, command_among, command_of, command_row, geometry_commands, inl, inr}
+use Rattle.gx_fifo.proofs.Words.{is_some, refl, sym, true, true≢false, unwrap_or, ℕ, ◌<◌, ◌∷◌, ◌≡◌}
 use Rattle.ds_base.proofs.Choices.{same_or_not, is_equal, is_unequal}
-use Rattle.gx_matrix.specs.CommandTable.{command_among, command_of, command_row, geometry_commands}
-use Rattle.gx_matrix.specs.declared.commands.GeometryCommand.{GeometryCommand}
-use Rattle.gx_matrix.specs.declared.commands.GeometryCommand.TheVariants.{MtxMode}
 use Rattle.gx_fifo.specs.Saved.{command_or_first, has_command}
 
 -- Codes of commands.

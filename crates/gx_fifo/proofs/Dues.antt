@@ -1,12 +1,6 @@
-use Rattle.std.proofs.Common.{◌≡◌, ℕ, Bool, true, false, List, ◌++◌, Option, Some, None, option_map, is_some, refl, sym, true≢false}
-use Rattle.std.specs.Prelude.{◌&&◌, not}
-use Rattle.ds_base.specs.declared.ticks.Tick.{Tick}
-use Rattle.gx_matrix.specs.declared.commands.GeometryCommand.{GeometryCommand}
-use Rattle.gx_fifo.specs.declared.entries.GxEntry.{GxEntry}
-use Rattle.gx_fifo.specs.Entries.{begun, complete_command, done_after}
-use Rattle.gx_fifo.specs.PackedWords.{FifoState}
+use Rattle.gx_fifo.proofs.Words.{Bool, FifoState, GeometryCommand, GxEntry, List, None, Option, Some, Tick, begun, complete_command, done_after}
+use Rattle.gx_fifo.proofs.Words.{false, is_some, not, option_map, option_or, refl, sym, true, true≢false, ℕ, ◌&&◌, ◌++◌, ◌≡◌}
 use Rattle.gx_fifo.proofs.Growing.{complete_grows, Grows}
-use Rattle.std.specs.Option.{option_or}
 
 -- A command is due exactly where the head command is complete and no swap waits.
 

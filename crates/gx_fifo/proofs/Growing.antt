@@ -1,11 +1,7 @@
-use Rattle.std.proofs.Common.{◌≡◌, ℕ, ◌+◌, ◌/◌, ◌<◌, ◌≤◌, ◌^◌, nat_le, if◌then◌else◌, Bool, true, false, List, [], ◌∷◌, ◌++◌, length, take, Option, Some, None, is_some, refl, sym, ap, ◌∙◌, arith}
-use Rattle.std.specs.List.{prefix_len}
-use Rattle.std.proofs.lemmas.List.{append_assoc, append-nil, length-append, length-map, length-take}
-use Rattle.gx_matrix.specs.CommandTable.{command_row}
-use Rattle.gx_matrix.specs.declared.commands.GeometryCommand.{GeometryCommand}
-use Rattle.gx_fifo.specs.declared.entries.GxEntry.{GxEntry}
-use Rattle.gx_fifo.specs.Entries.{complete_command}
-use Rattle.gx_fifo.specs.PackedWords.{FifoState, added_by, first_command, is_given, packed_commands, takes_none, with_word, without_word, unpacked, parameter_taken, word_taken, entry_added}
+use Rattle.gx_fifo.proofs.Words.{Bool, FifoState, GeometryCommand, GxEntry, List, None, Option, Some, [], added_by, ap, append-nil, append_assoc}
+use Rattle.gx_fifo.proofs.Words.{arith, command_row, complete_command, entry_added, false, first_command, if◌then◌else◌, is_given, is_some, length}
+use Rattle.gx_fifo.proofs.Words.{length-append, length-map, length-take, nat_le, packed_commands, parameter_taken, prefix_len, refl, sym, take}
+use Rattle.gx_fifo.proofs.Words.{takes_none, true, unpacked, with_word, without_word, word_taken, ℕ, ◌++◌, ◌+◌, ◌/◌, ◌<◌, ◌^◌, ◌∙◌, ◌∷◌, ◌≡◌, ◌≤◌}
 use Rattle.gx_fifo.proofs.Unpacks.{four_commands, left_given, three_commands, word_left}
 
 -- What a word adds to the entries that wait, and what it leaves of a packed word's commands.

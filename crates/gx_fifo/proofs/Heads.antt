@@ -1,7 +1,5 @@
-use Rattle.std.proofs.Common.{◌≡◌, ℕ, zero, suc, ◌++◌, List, [], ◌∷◌, map, take, drop, slice_get, Some, None, option_map, refl, sym, ◌∙◌, arith}
-use Rattle.std.proofs.lemmas.List.{append_assoc}
-use Rattle.std.proofs.lemmas.Option.{none-some}
-use Rattle.gx_fifo.specs.declared.entries.GxEntry.{GxEntry}
+use Rattle.gx_fifo.proofs.Words.{GxEntry, List, None, Some, [], append_assoc, arith, drop, map, none-some, option_map, refl, slice_get, suc, sym}
+use Rattle.gx_fifo.proofs.Words.{take, zero, ℕ, ◌++◌, ◌∙◌, ◌∷◌, ◌≡◌}
 
 -- Words are taken one after another: the next one goes over to those that were taken.
 

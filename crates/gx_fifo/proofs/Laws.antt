@@ -1,25 +1,16 @@
-use Rattle.std.proofs.Common.{◌≡◌, ℕ, ◌+◌, ◌≤◌, inl, inr, if◌then◌else◌, Bool, true, false, List, length, drop, Option, Some, None, option_map, is_some, refl, sym, true≢false, arith}
-use Rattle.std.specs.Prelude.{◌&&◌, not}
-use Rattle.std.proofs.lemmas.Option.{same_Some, none-some}
-use Rattle.std.proofs.lemmas.List.{length-drop}
-use Rattle.ds_base.specs.Bits.{bit}
+use Rattle.gx_fifo.proofs.Words.{Bool, FifoState, GeometryCommand, GxEntry, List, MtxMode, None, Option, Some, Tick, arith, asks_for_swap, begun, bit}
+use Rattle.gx_fifo.proofs.Words.{command_of, command_row, complete_command, done_after, drop, entries_taken, entry_added, false, if◌then◌else◌, inl}
+use Rattle.gx_fifo.proofs.Words.{inr, is_some, length, length-drop, most_entries, none-some, not, option_map, option_or, refl, same_Some, sym, true}
+use Rattle.gx_fifo.proofs.Words.{true≢false, word_taken, words_taken, ℕ, ◌&&◌, ◌+◌, ◌≡◌, ◌≤◌}
 use Rattle.ds_base.specs.Schedules.{IsLater, Reschedules}
-use Rattle.ds_base.specs.declared.ticks.Tick.{Tick}
-use Rattle.gx_matrix.specs.CommandTable.{command_of, command_row}
-use Rattle.gx_matrix.specs.declared.commands.GeometryCommand.{GeometryCommand}
-use Rattle.gx_matrix.specs.declared.commands.GeometryCommand.TheVariants.{MtxMode}
 use Rattle.gx_geometry.specs.States.{GeometryState, geometry_error_cleared, overflow_cleared, swapped}
 use Rattle.gx_geometry.proofs.Bounds.{run_after}
-use Rattle.gx_fifo.specs.declared.entries.GxEntry.{GxEntry}
 use Rattle.gx_fifo.specs.declared.ports.GxPort.{GxPort}
 use Rattle.gx_fifo.specs.declared.ports.GxPort.TheVariants.{Display, Fifo, Direct, Status, Lengths, Position, Vector, Clip, VectorMatrix, Unlisted}
-use Rattle.gx_fifo.specs.Entries.{asks_for_swap, begun, complete_command, done_after, entries_taken, most_entries, words_taken}
-use Rattle.gx_fifo.specs.PackedWords.{FifoState, word_taken, entry_added}
 use Rattle.gx_fifo.specs.GxPorts.{gx_port}
 use Rattle.gx_fifo.specs.GxStates.{GxState, AddsOneVertex, AreWaiting, done_by, entries_came, gx_finished, gx_swapped, gx_written, write_port}
 use Rattle.gx_fifo.proofs.Growing.{Grows, entry_grows, grows_by, word_grows}
 use Rattle.gx_fifo.proofs.Dues.{begun_is, due_kept}
-use Rattle.std.specs.Option.{option_or}
 
 -- What each call makes of what waits and of the due tick, said of the states alone, for those who take them into a larger one.
 

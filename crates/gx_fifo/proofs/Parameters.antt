@@ -1,12 +1,9 @@
-use Rattle.std.proofs.Common.{ℕ, ◌≡◌, false, true≢false, List, refl, ◌∙◌}
-use Rattle.gx_matrix.specs.declared.commands.GeometryCommand.{GeometryCommand}
+use Rattle.gx_fifo.proofs.Words.{GeometryCommand, List, Tick, asks_for_swap, false, refl, true≢false, ℕ, ◌∙◌, ◌≡◌}
 use Rattle.gx_matrix.specs.declared.commands.GeometryCommand.TheVariants.{Color, Normal, Texcoord, Vtx16, Vtx10, VtxXy, VtxXz, VtxYz, VtxDiff, PolygonAttr, TeximageParam, PlttBase, DifAmb, SpeEmi, LightVector, LightColor, Shininess, BeginVtxs, SwapBuffers, Viewport, PosTest}
 use Rattle.gx_geometry.specs.declared.numbers.Numbers.{Numbers}
 use Rattle.gx_geometry.specs.Numbers.{numbers_at_boot}
 use Rattle.gx_geometry.specs.Changes.{numbers_drawn, numbers_lit, numbers_after, normal_given, coordinates_given, vertex_given, diffuse_given, specular_given, light_pointed, light_coloured, run_begun}
 use Rattle.gx_geometry.specs.States.{GeometryState, geometry_after, geometry_at_boot, swapped}
-use Rattle.ds_base.specs.declared.ticks.Tick.{Tick}
-use Rattle.gx_fifo.specs.Entries.{asks_for_swap}
 
 -- A swap's parameter is there from the command that asks for it to the swap.
 

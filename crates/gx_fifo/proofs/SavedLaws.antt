@@ -1,23 +1,18 @@
-use Rattle.std.proofs.Common.{rules, ℕ, ◌≡◌, ◌<◌, ◌≤◌, ◌+◌, ◌-◌, ◌*◌, ◌/◌, ◌%◌, ◌^◌, ◌⊎◌, inl, inr, Bool, true, false, true≢false, List, [], ◌∷◌, Option, Some, None, is_some, bit_and, refl, sym, ap, ◌∙◌, arith}
-use Rattle.std.specs.Prelude.{◌&&◌, ◌||◌, ◌==◌, nat_lt, not}
-use Rattle.std.specs.List.{AllByRecursion}
+use Rattle.gx_fifo.proofs.Words.{AllByRecursion, Bool, GxEntry, List, None, Option, Some, Tick, [], ap, arith, bit, bit_and, bytes_written}
+use Rattle.gx_fifo.proofs.Words.{complete_command, entry_format, false, first_parameters, inl, inr, is_given, is_some, most_entries, nat_lt, not}
+use Rattle.gx_fifo.proofs.Words.{refl, rules, sym, true, true≢false, ℕ, ◌%◌, ◌&&◌, ◌*◌, ◌+◌, ◌-◌, ◌/◌, ◌<◌, ◌==◌, ◌^◌, ◌||◌, ◌∙◌, ◌∷◌, ◌≡◌, ◌≤◌, ◌⊎◌}
 use Rattle.std.specs.Int.Bits.{and_mask}
-use Rattle.ds_base.specs.Bits.{bit}
 use Rattle.ds_base.specs.Schedules.{due_number, numbered_due}
-use Rattle.ds_base.specs.declared.ticks.Tick.{Tick}
 use Rattle.ds_base.proofs.DueNumbers.{due_again, number_again}
 use Rattle.ds_base.proofs.Choices.{both_true, is_le}
-use Rattle.ds_state.specs.Formats.{keeps_mask, bytes_written}
+use Rattle.ds_state.specs.Formats.{keeps_mask}
 use Rattle.ds_state.proofs.Standing.{IsExact, StandsFor}
 use Rattle.ds_state.proofs.Exact.{one_spelling, round_trips}
 use Rattle.ds_state.proofs.Masks.{kept_top}
 use Rattle.ds_state.proofs.Soon.{soon_fits}
 use Rattle.gx_geometry.proofs.SavedLaws.{geometry_exact, geometry_stands}
-use Rattle.gx_fifo.specs.declared.entries.GxEntry.{GxEntry}
-use Rattle.gx_fifo.specs.Entries.{complete_command, most_entries}
-use Rattle.gx_fifo.specs.PackedWords.{first_parameters, is_given}
 use Rattle.gx_fifo.specs.GxStates.{GxState, waiting_entries}
-use Rattle.gx_fifo.specs.Saved.{GxIsSaved, IsSavedGx, are_left, count_by, entry_format, gx_format, gx_format_by, may_wait}
+use Rattle.gx_fifo.specs.Saved.{GxIsSaved, IsSavedGx, are_left, count_by, gx_format, gx_format_by, may_wait}
 use Rattle.gx_fifo.proofs.Codes.{code_of, code_small, first_again, has_again}
 use Rattle.gx_fifo.proofs.Unpacks.{no_parameters}
 

@@ -1,13 +1,8 @@
-use Rattle.std.proofs.Common.{◌≡◌, ℕ, zero, suc, ◌+◌, ◌/◌, ◌<◌, ◌≤◌, ◌^◌, ◌⊎◌, inl, inr, nat_lt, if◌then◌else◌, Bool, true, false, true≢false, List, [], ◌∷◌, ◌++◌, length, map, Option, Some, None, refl, sym, ap, ◌∙◌, arith}
-use Rattle.std.specs.Prelude.{option_to_list, take, take_while}
-use Rattle.std.specs.List.{cons_option, prefix_len}
-use Rattle.std.proofs.lemmas.List.{append_assoc, append-nil, length-append, length-map}
-use Rattle.ds_base.specs.Bits.{bits}
-use Rattle.gx_matrix.specs.CommandTable.{command_of}
-use Rattle.gx_matrix.specs.declared.commands.GeometryCommand.{GeometryCommand}
-use Rattle.gx_fifo.specs.declared.entries.GxEntry.{GxEntry}
-use Rattle.gx_fifo.specs.PackedWords.{added_by, bytes_left, first_command, first_parameters, is_given, left_among, packed_commands, parameters_of, takes_none, without_word}
-use Rattle.gx_fifo.specs.Unpacking.{stops_at}
+use Rattle.gx_fifo.proofs.Words.{Bool, GeometryCommand, GxEntry, List, None, Option, Some, [], added_by, ap, append-nil, append_assoc, arith, bits}
+use Rattle.gx_fifo.proofs.Words.{bytes_left, command_of, cons_option, false, first_command, first_parameters, if◌then◌else◌, inl, inr, is_given}
+use Rattle.gx_fifo.proofs.Words.{left_among, length, length-append, length-map, map, nat_lt, option_to_list, packed_commands, parameters_of}
+use Rattle.gx_fifo.proofs.Words.{prefix_len, refl, stops_at, suc, sym, take, take_while, takes_none, true, true≢false, without_word, zero, ℕ, ◌++◌}
+use Rattle.gx_fifo.proofs.Words.{◌+◌, ◌/◌, ◌<◌, ◌^◌, ◌∙◌, ◌∷◌, ◌≡◌, ◌≤◌, ◌⊎◌}
 
 -- A word's bytes, one after another.
 

@@ -1,8 +1,5 @@
-use Rattle.std.proofs.Common.{ℕ, suc, ◌≡◌, ◌<◌, ◌^◌, List, [], ◌∷◌, ◌++◌, length, slice_index_or, refl, subst, arith}
-use Rattle.std.specs.List.{AllByRecursion}
-use Rattle.ds_state.specs.Formats.{written_each}
-use Rattle.gx_matrix.specs.declared.commands.GeometryCommand.TheVariants.{MtxMode}
-use Rattle.gx_fifo.specs.declared.entries.GxEntry.{GxEntry}
+use Rattle.gx_fifo.proofs.Words.{AllByRecursion, GxEntry, List, MtxMode, [], arith, length, refl, slice_index_or, subst, suc, written_each, ℕ, ◌++◌}
+use Rattle.gx_fifo.proofs.Words.{◌<◌, ◌^◌, ◌∷◌, ◌≡◌}
 
 -- A list that is put in two pieces is put.
 pub in_pieces : (write : List ℕ → GxEntry → List ℕ) (before : List ℕ) (front back : List GxEntry)

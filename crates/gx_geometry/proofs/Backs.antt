@@ -1,16 +1,12 @@
-use Rattle.std.proofs.Common.{ℕ, ◌≡◌, ◌≢◌, ◌≤◌, ◌+◌, ◌-◌, ◌/◌, ◌%◌, ◌⊎◌, inl, inr, true, false, List, [], ◌∷◌, length, map, Option, Some, None, refl, sym, ap, ◌∙◌, arith}
-use Rattle.std.specs.Prelude.{◌==◌, ◌&&◌, ◌||◌, nat_lt, is_some, slice_index, slice_index_or}
+use Rattle.gx_geometry.proofs.Words.{Kind, List, None, Numbers, Option, QuadStrip, Quads, Some, TriangleStrip, Triangles, Vertex, [], ap, arith}
+use Rattle.gx_geometry.proofs.Words.{completed, corners, false, has_corners, inl, inr, is_equal, is_some, is_unequal, last_place, length, list_all}
+use Rattle.gx_geometry.proofs.Words.{map, may_be_seen, nat_lt, place_among, place_since, polygon_among, polygon_at, polygon_by, polygon_of}
+use Rattle.gx_geometry.proofs.Words.{polygon_with, refl, same_or_not, slice_index, slice_index_or, sym, true, ℕ, ◌%◌, ◌&&◌, ◌+◌, ◌-◌, ◌/◌, ◌==◌, ◌||◌}
+use Rattle.gx_geometry.proofs.Words.{◌∙◌, ◌∷◌, ◌≡◌, ◌≢◌, ◌≤◌, ◌⊎◌}
 use Rattle.std.specs.Option.{unwrap_or}
-use Rattle.std.specs.List.{list_all}
-use Rattle.ds_base.proofs.Choices.{same_or_not, is_equal, is_unequal}
-use Rattle.gx_geometry.specs.declared.numbers.Kind.{Kind}
-use Rattle.gx_geometry.specs.declared.numbers.Kind.TheVariants.{Triangles, Quads, TriangleStrip, QuadStrip}
 use Rattle.gx_geometry.specs.declared.polygons.Shape.{Shape}
 use Rattle.gx_geometry.specs.declared.polygons.Shape.TheVariants.{Triangle, TurnedTriangle, Quad, StripQuad}
-use Rattle.gx_geometry.specs.declared.polygons.Vertex.{Vertex}
-use Rattle.gx_geometry.specs.Polygons.{last_place, corners, completed, place_since, place_among, has_corners, may_be_seen, polygon_with, polygon_at, polygon_by, polygon_of, polygon_among}
 use Rattle.gx_geometry.specs.Backs.{shape_of, corners_back, index_back, reaches_back, seen_back, indices_back, polygon_back, polygon_by_shape}
-use Rattle.gx_geometry.specs.declared.numbers.Numbers.{Numbers}
 
 -- A polygon's corners by their places in the run are those by how far back they came.
 

@@ -1,19 +1,13 @@
-use Rattle.std.proofs.Common.{ℕ, ℤ, zero, suc, ◌≡◌, ◌<◌, ◌≤◌, ◌+◌, ◌^◌, Bool, true, false, List, [], ◌∷◌, ◌++◌, Option, Some, None, refl, sym, subst, arith}
-use Rattle.std.specs.Prelude.{if◌then◌else◌, slice_index, slice_index_or, slice_set}
-use Rattle.ds_base.specs.Bits.{bits, bit}
-use Rattle.gx_geometry.specs.declared.numbers.Light.{Light}
-use Rattle.gx_geometry.specs.declared.numbers.Numbers.{Numbers}
-use Rattle.gx_geometry.specs.declared.polygons.Vertex.{Vertex}
-use Rattle.gx_geometry.specs.declared.polygons.Polygon.{Polygon}
+use Rattle.gx_geometry.proofs.Words.{AreLimited, AreSmall, Bool, GeometryCommand, HaveColours, HavePalettes, HaveShapes, Light, List, None, Numbers}
+use Rattle.gx_geometry.proofs.Words.{Option, Polygon, Some, Vertex, [], arith, bit, bits, false, if◌then◌else◌, is_shaped, no_light, refl}
+use Rattle.gx_geometry.proofs.Words.{slice_index, slice_index_or, slice_set, subst, suc, sym, true, zero, ℕ, ℤ, ◌++◌, ◌+◌, ◌<◌, ◌^◌, ◌∷◌, ◌≡◌, ◌≤◌}
 use Rattle.gx_matrix.specs.Commands.{commanded}
 use Rattle.gx_matrix.specs.CommandTable.{command_taken}
-use Rattle.gx_matrix.specs.declared.commands.GeometryCommand.{GeometryCommand}
 use Rattle.gx_matrix.specs.declared.commands.GeometryCommand.TheVariants.{Color, Normal, Texcoord, PolygonAttr, TeximageParam, PlttBase, DifAmb, SpeEmi, LightVector, LightColor, Shininess, BeginVtxs, SwapBuffers, Viewport, PosTest}
-use Rattle.gx_geometry.specs.Numbers.{no_light, numbers_at_boot}
+use Rattle.gx_geometry.specs.Numbers.{numbers_at_boot}
 use Rattle.gx_geometry.specs.Lights.{lit_channel, lit_colour, turned}
 use Rattle.gx_geometry.specs.Changes.{numbers_drawn, numbers_lit, numbers_after, normal_given, coordinates_given, vertex_given, diffuse_given, specular_given, light_pointed, light_coloured, run_begun, gives_vertex}
 use Rattle.gx_geometry.specs.States.{GeometryState, geometry_after}
-use Rattle.gx_geometry.specs.BoundLaws.{is_shaped, AreSmall, AreLimited, HaveColours, HavePalettes, HaveShapes}
 
 -- Commands keep colours to fifteen bits and palettes to thirteen, and add at most one vertex to a run.
 

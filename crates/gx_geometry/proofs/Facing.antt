@@ -1,6 +1,4 @@
-use Rattle.std.proofs.Common.{ℕ, zero, suc, ◌≡◌, ◌≤◌, ◌*◌, ◌/◌, ℤ, pos, negsuc, ◌<ℤ◌, ◌≤ℤ◌, min, refl, arith}
-use Rattle.std.specs.Prelude.{unsigned_abs}
-use Rattle.std.proofs.lemmas.Int.{ints}
+use Rattle.gx_geometry.proofs.Words.{arith, ints, min, negsuc, pos, refl, suc, unsigned_abs, zero, ℕ, ℤ, ◌*◌, ◌/◌, ◌<ℤ◌, ◌≡◌, ◌≤ℤ◌, ◌≤◌}
 use Rattle.gx_geometry.specs.Lights.{facing}
 
 -- a sum that isn't negative faces away

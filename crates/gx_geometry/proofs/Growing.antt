@@ -1,16 +1,11 @@
-use Rattle.std.proofs.Common.{ℕ, zero, suc, ◌≡◌, ◌<◌, ◌≤◌, ◌+◌, ◌-◌, ◌*◌, ◌%◌, inl, inr, Bool, true, false, true≢false, List, [], ◌∷◌, ◌++◌, length, take, Option, Some, None, refl, sym, subst, ◌∙◌, ap, arith, append_assoc, append-nil, length-append}
-use Rattle.std.specs.Prelude.{◌==◌, ◌&&◌, ◌||◌, nat_le, if◌then◌else◌, option_to_list, slice_index_or}
-use Rattle.std.proofs.lemmas.List.{take-append-le, take_all, length-take-le}
-use Rattle.ds_base.proofs.Choices.{low_or_high}
-use Rattle.gx_matrix.specs.declared.commands.GeometryCommand.{GeometryCommand}
+use Rattle.gx_geometry.proofs.Words.{Bool, GeometryCommand, Kind, List, None, Numbers, Option, Polygon, QuadStrip, Quads, Some, TriangleStrip}
+use Rattle.gx_geometry.proofs.Words.{Triangles, Vertex, [], ap, append-nil, append_assoc, arith, completed, corners, false, has_corners}
+use Rattle.gx_geometry.proofs.Words.{if◌then◌else◌, inl, inr, last_place, length, length-append, length-take-le, low_or_high, most_polygons}
+use Rattle.gx_geometry.proofs.Words.{most_vertices, nat_le, option_to_list, place_since, polygon_among, polygon_at, polygon_by, polygon_of, refl}
+use Rattle.gx_geometry.proofs.Words.{slice_index_or, subst, suc, sym, take, take-append-le, take_all, true, true≢false, vertex_of, zero, ℕ, ◌%◌, ◌&&◌}
+use Rattle.gx_geometry.proofs.Words.{◌*◌, ◌++◌, ◌+◌, ◌-◌, ◌<◌, ◌==◌, ◌||◌, ◌∙◌, ◌∷◌, ◌≡◌, ◌≤◌}
 use Rattle.gx_matrix.specs.declared.commands.GeometryCommand.TheVariants.{BeginVtxs, Vtx16, Vtx10, VtxXy, VtxXz, VtxYz, VtxDiff, BoxTest, PosTest, VecTest}
-use Rattle.gx_geometry.specs.declared.numbers.Kind.{Kind}
-use Rattle.gx_geometry.specs.declared.numbers.Kind.TheVariants.{Triangles, Quads, TriangleStrip, QuadStrip}
-use Rattle.gx_geometry.specs.declared.polygons.Vertex.{Vertex}
-use Rattle.gx_geometry.specs.declared.polygons.Polygon.{Polygon}
-use Rattle.gx_geometry.specs.declared.numbers.Numbers.{Numbers}
 use Rattle.gx_geometry.specs.Changes.{numbers_after, gives_vertex}
-use Rattle.gx_geometry.specs.Polygons.{vertex_of, last_place, place_since, polygon_of, polygon_among, polygon_at, polygon_by, corners, completed, has_corners, most_vertices, most_polygons}
 use Rattle.gx_geometry.specs.ListLaws.{GeometryAct, Command, ClearError, ClearOverflow, arrivals, polygons_of, vertices_of}
 use Rattle.gx_geometry.specs.States.{OutcomeState, GeometryState, IsFresh, AreListsSince, four_recent, none_recent, then_recent, vertex_dropped, polygon_added, vertex_added, arrived, tested, outcome_after, geometry_after, geometry_error_cleared, overflow_cleared, after_all}
 use Rattle.gx_geometry.proofs.Backs.{Agrees, same_polygon}

@@ -1,7 +1,6 @@
-use Rattle.std.proofs.Common.{ℕ, suc, ◌≡◌, ◌<◌, ◌+◌, ◌-◌, ◌*◌, ◌/◌, ◌%◌, ◌^◌, ℤ, pos, negsuc, ◌+ℤ◌, refl, sym, ◌∙◌, ap, arith}
-use Rattle.std.specs.Int.{cast_signed, cast_unsigned, int_wrap, w16, w32, w64}
-use Rattle.std.specs.Int.RustNames.{FitsSigned}
-use Rattle.std.proofs.lemmas.Int.{of_z-to_z, to_z-of_z}
+use Rattle.gx_geometry.proofs.Words.{FitsSigned, ap, arith, negsuc, of_z-to_z, pos, refl, suc, sym, to_z-of_z, w32, ℕ, ℤ, ◌%◌, ◌*◌, ◌+ℤ◌, ◌+◌, ◌-◌}
+use Rattle.gx_geometry.proofs.Words.{◌/◌, ◌<◌, ◌^◌, ◌∙◌, ◌≡◌}
+use Rattle.std.specs.Int.{cast_signed, cast_unsigned, int_wrap, w16, w64}
 use Rattle.gx_geometry.specs.Coordinates.{half_of_sum, signed_13, tested_of_sum}
 
 below : (n : ℕ) → n % 2 ^ 64 < 2 ^ 64

@@ -1,3 +1,4 @@
+mod Words
 pub mod Bounds
 pub mod Backs
 pub mod Parameters

@@ -1,7 +1,4 @@
-use Rattle.std.proofs.Common.{ℕ, zero, suc, ◌<◌, ◌^◌, [], ◌∷◌, arith}
-use Rattle.std.specs.Prelude.{slice_index_or}
-use Rattle.gx_geometry.specs.declared.numbers.Light.{Light}
-use Rattle.gx_geometry.specs.Numbers.{no_light}
+use Rattle.gx_geometry.proofs.Words.{Light, [], arith, no_light, slice_index_or, suc, zero, ℕ, ◌<◌, ◌^◌, ◌∷◌}
 
 -- Four lights with colours of fifteen bits.
 pub four_lights : (a b c d : Light) → a.colour < 2 ^ 15 → b.colour < 2 ^ 15 → c.colour < 2 ^ 15 → d.colour < 2 ^ 15

@@ -1,8 +1,7 @@
 -- Parts of a format whose fields stand in the whole's: what is read is the same.
-use Rattle.std.proofs.Common.{ℕ, zero, suc, ◌≡◌, Bool, true, false, List, [], ◌∷◌, ◌++◌, Ok, Err, refl, sym, ◌∙◌}
+use Rattle.gx_geometry.proofs.Words.{Bool, Err, Format, Left, List, Ok, ReadAnswer, [], bytes_written, done, false, list, read_code, read_format}
+use Rattle.gx_geometry.proofs.Words.{read_list, refl, ruled, suc, sym, then_field, then_part, true, zero, ℕ, ◌++◌, ◌>>=◌, ◌∙◌, ◌∷◌, ◌≡◌}
 use Rattle.ds_state.specs.FormatLaws.{OneSpelling, RoundTrips}
-use Rattle.ds_state.specs.Formats.{Format, done, then_field, then_part, list, bytes_written}
-use Rattle.ds_state.specs.Reading.{Left, ReadAnswer, ◌>>=◌, read_code, ruled, read_list, read_format}
 
 -- the fields of a part, said of the whole, and what comes after it
 abbrev pub opened : {S T A B : Type 0} → Format T A → (S → T) → (A → Format S B) → Format S B

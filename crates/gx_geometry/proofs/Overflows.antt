@@ -1,14 +1,9 @@
-use Rattle.std.proofs.Common.{ℕ, ◌≡◌, ◌<◌, ◌≤◌, ◌+◌, ◌-◌, inl, inr, Bool, true, false, List, [], ◌∷◌, ◌++◌, length, Option, Some, None, refl, sym, ◌∙◌, ap, arith, append_assoc, append-nil, length-append}
-use Rattle.std.specs.Prelude.{◌||◌, nat_lt, if◌then◌else◌, option_to_list, take}
-use Rattle.std.proofs.lemmas.List.{take_all, length-take-le}
-use Rattle.ds_base.proofs.Choices.{low_or_high}
-use Rattle.gx_matrix.specs.declared.commands.GeometryCommand.{GeometryCommand}
+use Rattle.gx_geometry.proofs.Words.{Bool, GeometryCommand, List, None, Numbers, Option, Polygon, Some, Vertex, [], ap, append-nil, append_assoc}
+use Rattle.gx_geometry.proofs.Words.{arith, false, if◌then◌else◌, inl, inr, length, length-append, length-take-le, low_or_high, most_polygons}
+use Rattle.gx_geometry.proofs.Words.{most_vertices, nat_lt, option_to_list, polygon_among, polygon_of, refl, sym, take, take_all, true, vertex_of, ℕ}
+use Rattle.gx_geometry.proofs.Words.{◌++◌, ◌+◌, ◌-◌, ◌<◌, ◌||◌, ◌∙◌, ◌∷◌, ◌≡◌, ◌≤◌}
 use Rattle.gx_matrix.specs.declared.commands.GeometryCommand.TheVariants.{BeginVtxs, BoxTest, PosTest, VecTest}
-use Rattle.gx_geometry.specs.declared.numbers.Numbers.{Numbers}
-use Rattle.gx_geometry.specs.declared.polygons.Vertex.{Vertex}
-use Rattle.gx_geometry.specs.declared.polygons.Polygon.{Polygon}
 use Rattle.gx_geometry.specs.Changes.{numbers_after, gives_vertex}
-use Rattle.gx_geometry.specs.Polygons.{vertex_of, polygon_of, polygon_among, most_vertices, most_polygons}
 use Rattle.gx_geometry.specs.ListLaws.{GeometryAct, Command, ClearError, ClearOverflow, arrivals, polygons_of, vertices_of, AreNoClear}
 use Rattle.gx_geometry.specs.Lists.{numbers_cleared}
 use Rattle.gx_geometry.specs.States.{OutcomeState, GeometryState, IsOverflowSince, four_recent, polygon_added, vertex_added, arrived, tested, geometry_after, geometry_error_cleared, overflow_cleared, after_all}

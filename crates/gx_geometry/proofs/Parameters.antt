@@ -1,7 +1,5 @@
-use Rattle.std.proofs.Common.{ℕ, ◌≡◌, ◌≤◌, true, List, subst, sym, arith}
-use Rattle.gx_matrix.specs.declared.commands.GeometryCommand.{GeometryCommand}
+use Rattle.gx_geometry.proofs.Words.{GeometryCommand, List, Numbers, arith, subst, sym, true, ℕ, ◌≡◌, ◌≤◌}
 use Rattle.gx_matrix.specs.declared.commands.GeometryCommand.TheVariants.{Vtx16, Vtx10, VtxXy, VtxXz, VtxYz, VtxDiff}
-use Rattle.gx_geometry.specs.declared.numbers.Numbers.{Numbers}
 use Rattle.gx_geometry.specs.Changes.{gives_vertex, numbers_drawn, numbers_lit, numbers_after, vertex_given}
 
 -- a vertex command counts in its run

@@ -1,14 +1,9 @@
-use Rattle.std.proofs.Common.{ℕ, ◌≡◌, ◌+◌, Bool, true, false, nat_lt, List, [], ◌∷◌, ◌++◌, length, Option, Some, None, refl, sym, subst, ◌∙◌, ap, arith}
-use Rattle.std.specs.Prelude.{if◌then◌else◌, slice_index_or}
-use Rattle.gx_matrix.specs.declared.commands.GeometryCommand.{GeometryCommand}
+use Rattle.gx_geometry.proofs.Words.{ArePlaces, AreTold, Bool, GeometryCommand, List, None, Numbers, Option, Polygon, Some, [], ap, arith, false}
+use Rattle.gx_geometry.proofs.Words.{if◌then◌else◌, is_place, is_told, length, most_polygons, most_vertices, nat_lt, polygon_among, refl}
+use Rattle.gx_geometry.proofs.Words.{slice_index_or, subst, sym, true, vertex_of, ℕ, ◌++◌, ◌+◌, ◌∙◌, ◌∷◌, ◌≡◌}
 use Rattle.gx_matrix.specs.declared.commands.GeometryCommand.TheVariants.{Color, Normal, Texcoord, Vtx16, Vtx10, VtxXy, VtxXz, VtxYz, VtxDiff, PolygonAttr, TeximageParam, PlttBase, DifAmb, SpeEmi, LightVector, LightColor, Shininess, BeginVtxs, SwapBuffers, Viewport, BoxTest, PosTest, VecTest}
-use Rattle.gx_geometry.specs.declared.polygons.Polygon.{Polygon}
-use Rattle.gx_geometry.specs.declared.numbers.Numbers.{Numbers}
 use Rattle.gx_geometry.specs.Changes.{numbers_drawn, numbers_lit, numbers_after, normal_given, coordinates_given, vertex_given, diffuse_given, specular_given, light_pointed, light_coloured, run_begun, gives_vertex}
-use Rattle.gx_geometry.specs.Polygons.{vertex_of, polygon_among, most_vertices, most_polygons}
 use Rattle.gx_geometry.specs.States.{OutcomeState, GeometryState, four_recent, none_recent, then_recent, overflown, polygon_added, vertex_added, vertex_dropped, arrived, tested, outcome_after, geometry_after}
-use Rattle.gx_geometry.specs.Bounds.{is_place, is_told}
-use Rattle.gx_geometry.specs.BoundLaws.{ArePlaces, AreTold}
 
 -- The places of a run's last three vertices, command by command.
 

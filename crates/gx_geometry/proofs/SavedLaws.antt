@@ -1,22 +1,13 @@
-use Rattle.std.proofs.Common.{rules, ℕ, ℤ, FitsSigned, zero, suc, ◌≡◌, ◌<◌, ◌≤◌, ◌^◌, true, nat_le, List, [], ◌∷◌, length, slice_index, slice_index_or, Option, Some, None, refl, ap, arith}
-use Rattle.std.specs.Int.{w32}
-use Rattle.std.specs.List.{AllByRecursion}
-use Rattle.ds_state.specs.Formats.{signed_format}
+use Rattle.gx_geometry.proofs.Words.{AllByRecursion, ArePlaces, FitsSigned, Kind, Light, List, None, Option, Polygon, QuadStrip, Quads, Some}
+use Rattle.gx_geometry.proofs.Words.{TriangleStrip, Triangles, Vertex, [], ap, arith, geometry_format, is_place, is_told, kind_of, length}
+use Rattle.gx_geometry.proofs.Words.{most_polygons, most_vertices, nat_le, no_light, polygon_format, refl, rules, signed_format, slice_index}
+use Rattle.gx_geometry.proofs.Words.{slice_index_or, suc, true, vertex_format, w32, zero, ℕ, ℤ, ◌<◌, ◌^◌, ◌∷◌, ◌≡◌, ◌≤◌}
 use Rattle.ds_state.proofs.Standing.{IsExact, StandsFor}
 use Rattle.ds_state.proofs.Exact.{one_spelling, round_trips}
 use Rattle.gx_matrix.proofs.SavedLaws.{stacks_exact, stacks_stand}
-use Rattle.gx_geometry.specs.Numbers.{kind_of, no_light}
-use Rattle.gx_geometry.specs.declared.numbers.Kind.{Kind}
-use Rattle.gx_geometry.specs.declared.numbers.Kind.TheVariants.{Triangles, Quads, TriangleStrip, QuadStrip}
-use Rattle.gx_geometry.specs.declared.polygons.Vertex.{Vertex}
-use Rattle.gx_geometry.specs.declared.polygons.Polygon.{Polygon}
-use Rattle.gx_geometry.specs.Bounds.{is_place, is_told}
-use Rattle.gx_geometry.specs.BoundLaws.{ArePlaces}
-use Rattle.gx_geometry.specs.Polygons.{most_vertices, most_polygons}
-use Rattle.gx_geometry.specs.declared.numbers.Light.{Light}
 use Rattle.gx_geometry.specs.States.{GeometryState, Swapped, no_swap}
 use Rattle.gx_geometry.specs.SavedLaws.{GeometryIsSaved, IsSavedGeometry, AreSwapped, IsLight, IsPolygon, IsVertex}
-use Rattle.gx_geometry.specs.Saved.{signed_at, holds_recent, unless_none, vertex_format, polygon_format, light_format, lists_format, geometry_format, place_number, place_of_number, run_kind_number}
+use Rattle.gx_geometry.specs.Saved.{signed_at, holds_recent, unless_none, light_format, lists_format, place_number, place_of_number, run_kind_number}
 
 -- What the geometry engine owes of its format.
 

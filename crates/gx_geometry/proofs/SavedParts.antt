@@ -1,9 +1,6 @@
 -- The engine's format, and the parts in which the code takes it from bytes.
-use Rattle.std.proofs.Common.{ℕ, ◌≡◌, true, false, List, [], ◌∷◌, refl, subst, sym}
-use Rattle.ds_state.specs.Formats.{Format, bytes_written}
-use Rattle.ds_state.specs.Reading.{Left, read_format}
-use Rattle.gx_geometry.specs.Saved.{geometry_format}
-use Rattle.gx_geometry.specs.SavedKept.{current_format, geometry_parts, lighting_format, results_format}
+use Rattle.gx_geometry.proofs.Words.{Format, Left, List, [], bytes_written, current_format, false, geometry_format, geometry_parts, lighting_format}
+use Rattle.gx_geometry.proofs.Words.{read_format, refl, results_format, subst, sym, true, ℕ, ◌∷◌, ◌≡◌}
 use Rattle.gx_geometry.specs.States.{GeometryState}
 use Rattle.gx_geometry.proofs.Opened.{open_by, open_reads}
 

@@ -1,11 +1,6 @@
-use Rattle.std.proofs.Common.{ℕ, zero, suc, ◌≡◌, ◌<◌, ◌≤◌, ◌+◌, ◌-◌, ◌*◌, ◌^◌, ℤ, pos, negsuc, ◌<ℤ◌, ◌≤ℤ◌, ◌*ℤ◌, refl, arith, rules}
-use Rattle.std.specs.Prelude.{◌||◌, unsigned_abs}
-use Rattle.std.specs.Int.{w128}
-use Rattle.std.specs.Int.RustNames.{FitsSigned}
+use Rattle.gx_geometry.proofs.Words.{FitsSigned, arith, bit, fits_signed_mul, ints, is_kept, negsuc, pos, refl, rules, suc, unsigned_abs}
+use Rattle.gx_geometry.proofs.Words.{unsigned_abs-mul, w128, zero, ℕ, ℤ, ◌*ℤ◌, ◌*◌, ◌+◌, ◌-◌, ◌<ℤ◌, ◌<◌, ◌^◌, ◌||◌, ◌≡◌, ◌≤ℤ◌, ◌≤◌}
 use Rattle.std.proofs.Math.Nat.{mul-le-mul_right}
-use Rattle.std.proofs.lemmas.Int.{ints, unsigned_abs-mul, fits_signed_mul}
-use Rattle.ds_base.specs.Bits.{bit}
-use Rattle.gx_geometry.specs.Polygons.{is_kept}
 
 -- polygons by the sign of the determinant
 pub kept_front : (attributes : ℕ) (d : ℤ) → pos 0 <ℤ d → is_kept attributes d ≡ bit 7 attributes

@@ -1,15 +1,8 @@
-use Rattle.std.proofs.Common.{ℕ, ℤ, suc, FitsSigned, ◌≡◌, ◌<◌, ◌^◌, true, List, [], ◌∷◌, length, map, pos, slice_index, slice_index_or, arith}
-use Rattle.std.specs.Int.{w32}
-use Rattle.std.specs.List.{AllByRecursion}
-use Rattle.gx_geometry.specs.declared.numbers.Light.{Light}
-use Rattle.gx_geometry.specs.declared.polygons.Polygon.{Polygon}
-use Rattle.gx_geometry.specs.declared.polygons.Vertex.{Vertex}
-use Rattle.gx_geometry.specs.BoundLaws.{HaveColours, HavePalettes, HaveShapes, is_shaped, no_polygon}
-use Rattle.gx_geometry.specs.Numbers.{no_light}
-use Rattle.gx_geometry.specs.Polygons.{no_vertex}
+use Rattle.gx_geometry.proofs.Words.{AllByRecursion, FitsLight, FitsPolygon, FitsSigned, FitsVertex, HaveColours, HavePalettes, HaveShapes, Light}
+use Rattle.gx_geometry.proofs.Words.{List, Polygon, Vertex, [], arith, dark_light, is_shaped, length, map, no_light, no_polygon, no_vertex, pos}
+use Rattle.gx_geometry.proofs.Words.{slice_index, slice_index_or, suc, true, w32, ℕ, ℤ, ◌<◌, ◌^◌, ◌∷◌, ◌≡◌}
 use Rattle.gx_geometry.specs.SavedLaws.{IsLight, IsPolygon, IsVertex}
 use Rattle.gx_geometry.specs.Saved.{has_corner_count, may_be_fourth}
-use Rattle.gx_geometry.specs.SavedKept.{FitsLight, FitsPolygon, FitsVertex, dark_light}
 
 -- What is known of each place of a list is known of all.
 

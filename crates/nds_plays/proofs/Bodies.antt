@@ -1,9 +1,8 @@
-use Rattle.nds_plays.proofs.Words.{ℕ, zero, suc, ◌≡◌, ◌+◌, ◌*◌, List, [], ◌∷◌, ◌++◌, length, map, flat_map, refl, sym, ◌∙◌, ap, arith, append_assoc}
-use Rattle.nds_plays.proofs.Words.{append-nil, range_with_len, flat_map-append, map-range_with_len_more, little_bytes, Nine, Seven, IsAccepted, drawn}
-use Rattle.nds_plays.proofs.Words.{body}
-use Rattle.std.proofs.Common.{replicate, length-append}
+use Rattle.nds_plays.proofs.Words.{IsAccepted, List, Nine, Seven, [], ap, append-nil, append_assoc, arith, body, drawn, flat_map, flat_map-append}
+use Rattle.nds_plays.proofs.Words.{length, length-append, little_bytes, map, range_with_len, refl, suc, sym, zero, ℕ, ◌*◌, ◌++◌, ◌+◌, ◌∙◌, ◌∷◌, ◌≡◌}
+use Rattle.std.proofs.lemmas.List.FromFn.{map-range_with_len_more, length-map-range_with_len}
+use Rattle.std.proofs.Common.{replicate}
 use Rattle.std.specs.Fn.{iterate}
-use Rattle.std.proofs.lemmas.List.FromFn.{length-map-range_with_len}
 use Rattle.ds_header.specs.Fields.{field_number, unit_code_of, image_offset, image_entry, image_place, image_length}
 use Rattle.nds_plays.specs.Demos.{draw, body_word, demo_fields, nine_start, seven_start, demo_words, demo_file}
 

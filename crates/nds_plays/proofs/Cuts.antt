@@ -1,13 +1,12 @@
-use Rattle.nds_plays.proofs.Words.{ℕ, ◌≡◌, List, [], ◌∷◌, ◌++◌, Option, Some, refl, sym, ◌∙◌, ap, subst, append_assoc, last_or, LeftOut, At, Ending}
-use Rattle.nds_plays.proofs.Words.{Runs, over, stops, more, Swapped, FollowFrames, FollowLists, WholeFrame, frame_shown, frames_shown, last_frame}
-use Rattle.nds_plays.proofs.Words.{last_lists, lists_shown, Shown, reference, HasSoundParts, MachineState, Keep, All, Last, Nothing, Latest}
-use Rattle.nds_plays.proofs.Words.{kept_records, last_records, latest_after, latest_of, output_of, shown_while}
+use Rattle.nds_plays.proofs.Words.{All, At, Ending, HasSoundParts, Keep, Last, LeftOut, List, MachineState, Nothing, Option, Runs, Shown, Some}
+use Rattle.nds_plays.proofs.Words.{Swapped, WholeFrame, [], ap, append_assoc, frame_shown, frames_shown, last_frame, last_lists, last_or}
+use Rattle.nds_plays.proofs.Words.{last_records, latest_of, lists_shown, more, over, reference, refl, stops, subst, sym, ℕ, ◌++◌, ◌∙◌, ◌∷◌, ◌≡◌}
+use Rattle.ds_machine.specs.FrameLaws.{FollowFrames, FollowLists, StepsFollowFrames, StepsFollowLists}
+use Rattle.nds_plays.specs.Records.{Latest, kept_records, latest_after, output_of, shown_while, latest_records}
 use Rattle.ds_runs.specs.Laws.{RunsAreOne, RunsExist, RunsJoin}
 use Rattle.ds_runs.specs.Runs as runs
-use Rattle.ds_machine.specs.FrameLaws.{StepsFollowFrames, StepsFollowLists}
 use Rattle.ds_machine.proofs.MachineSchedule.{sound_made}
 use Rattle.nds_plays.specs.Cuts.{RunsAreCut}
-use Rattle.nds_plays.specs.Records.{latest_records}
 use Rattle.nds_plays.proofs.Playing.{latest_follows, shown_join, then_lists}
 
 -- A run that is cut in two.

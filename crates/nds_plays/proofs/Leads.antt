@@ -1,26 +1,21 @@
-use Rattle.nds_plays.proofs.Words.{ℕ, ◌≡◌, ◌≤◌, ◌<◌, ◌+◌, ◌*◌, inl, inr, if◌then◌else◌, Bool, true, false, List, [], ◌∷◌, ◌++◌, Option, Some, refl}
-use Rattle.nds_plays.proofs.Words.{sym, ◌∙◌, ap, subst, arith, append_assoc, LeftOut, Proc, Nine, Seven, Tick, Ending, IsOver, Makes, Runs, Stopped}
-use Rattle.nds_plays.proofs.Words.{Stops, more, over, stops, least_unique, not_both, same_makes, Shown, dues_of, reference, IsSound, MachineState}
-use Rattle.nds_plays.proofs.Words.{IsTickBefore, step_lines, run_lines}
-use Rattle.std.proofs.Common.{nat_eq, nat_lt, option_to_list}
+use Rattle.nds_plays.proofs.Words.{Bool, Ending, IsLeast, IsOver, IsSound, LeftOut, List, MachineState, Makes, Nine, Option, Proc, Runs, Seven, Shown}
+use Rattle.nds_plays.proofs.Words.{Some, Stopped, Stops, TakesQuiet, Tick, [], ap, append_assoc, arith, due_at, dues_of, false, if◌then◌else◌, inl}
+use Rattle.nds_plays.proofs.Words.{inr, least_unique, more, nat_eq, nat_lt, not_both, option_to_list, over, reference, refl, run_lines, same_makes}
+use Rattle.nds_plays.proofs.Words.{seen_line, seen_of, step_lines, stops, subst, sym, true, ℕ, ◌*◌, ◌++◌, ◌+◌, ◌<◌, ◌∙◌, ◌∷◌, ◌≡◌, ◌≤◌}
+use Rattle.run_ahead.specs.TickTurns.{IsTickBefore, StopsActing, TakesActing}
 use Rattle.ds_runs.specs.Actors.{actor_of}
-use Rattle.ds_runs.specs.Runs.{IsLeast, due_at}
 use Rattle.ds_machine.specs.Acting.{acting_dues}
 use Rattle.ds_machine.specs.Lagging.{CatchesUp, CatchesUpIf, ComesBeforeAll, TakesGeometry, observes_by}
 use Rattle.ds_machine.specs.Lagging as lagging
-use Rattle.ds_machine.specs.Inspections.{seen_of}
 use Rattle.ds_machine.specs.Private.{rank_of}
 use Rattle.ds_machine.specs.Reference.{processor_due, reference_step}
 use Rattle.ds_machine.specs.declared.answers.Seen.{Seen}
 use Rattle.ds_machine.proofs.ActingDues.{acting_low, acting_processor}
 use Rattle.ds_machine.proofs.CatchingUp.{CaughtSo, behind_steps, caught_least, caught_so, comes_first, still_before}
-use Rattle.run_ahead.specs.TickTurns.{StopsActing, TakesActing}
-use Rattle.run_ahead.specs.Turns.{TakesQuiet}
 use Rattle.ds_machine.proofs.SameTick.{CrossesGeometry, StopsAfterGeometry, WaitsForGeometry, made_then, stopped_then}
 use Rattle.run_ahead.proofs.StepTurns.{before_all}
 use Rattle.run_ahead.proofs.TickTurns.{acts_at_it}
 use Rattle.nds_plays.specs.TraceParts.{IsLineDue, TakesTick}
-use Rattle.nds_plays.specs.Watches.{seen_line}
 use Rattle.ds_machine.proofs.SeenSame.{seen_same}
 
 -- What a turn of one tick says of the lines of a run: a run from after it goes on from before it, with the line of the turn's step first.

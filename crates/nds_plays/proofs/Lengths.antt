@@ -1,10 +1,8 @@
-use Rattle.nds_plays.proofs.Words.{option_to_list, ℕ, ◌≡◌, ◌≤◌, ◌<◌, ◌+◌, ◌*◌, ◌^◌, Bool, true, false, List, [], ◌∷◌, ◌++◌, length, Option, Some}
-use Rattle.nds_plays.proofs.Words.{None, refl, sym, subst, arith, concat, length-append, LeftOut, Tick, WholeFrame, last_frame, MachineState, Stopped}
-use Rattle.nds_plays.proofs.Words.{Swapped, lists_records, halves, longs, ending, frame_records, last_records, swapped_lists}
+use Rattle.nds_plays.proofs.Words.{Bool, LeftOut, List, MachineState, None, Option, Some, Stopped, Swapped, Tick, WholeFrame, [], arith, concat}
+use Rattle.nds_plays.proofs.Words.{ending, false, frame_records, framed_of, halves, last_frame, last_records, length, length-append, lists_records}
+use Rattle.nds_plays.proofs.Words.{longs, option_to_list, refl, subst, swapped_lists, sym, true, words, ℕ, ◌*◌, ◌++◌, ◌+◌, ◌<◌, ◌^◌, ◌∷◌, ◌≡◌, ◌≤◌}
 use Rattle.std.proofs.Common.{option_map}
-use Rattle.ds_machine.specs.Frames.{framed_of}
 use Rattle.nds_records.specs.Lists.{lists_record}
-use Rattle.nds_records.specs.Numbers.{words}
 use Rattle.nds_plays.specs.Records.{frame_record, stop_record}
 
 -- How long the records are.

@@ -1,6 +1,5 @@
-use Rattle.nds_plays.proofs.Words.{ℕ, ◌≡◌, List, ◌++◌, refl, sym, ◌∙◌, ap, subst, arith, Tick, Ending, Makes, Runs, Stops, TickMachine, more, over}
-use Rattle.nds_plays.proofs.Words.{stops, least_unique, not_both, same_makes, reference, step_lines}
-use Rattle.nds_plays.specs.Watches.{LinesAreOne, told_of}
+use Rattle.nds_plays.proofs.Words.{Ending, LinesAreOne, List, Makes, Runs, Stops, Tick, TickMachine, ap, arith, least_unique, more, not_both, over}
+use Rattle.nds_plays.proofs.Words.{reference, refl, same_makes, step_lines, stops, subst, sym, told_of, ℕ, ◌++◌, ◌∙◌, ◌≡◌}
 
 -- What is told of a run's steps is one list.
 

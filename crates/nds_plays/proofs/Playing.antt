@@ -1,25 +1,20 @@
-use Rattle.nds_plays.proofs.Words.{ℕ, ◌≡◌, ◌≤◌, ◌<◌, ◌*◌, ◌^◌, length, Bool, true, false, if◌then◌else◌, List, [], ◌∷◌, ◌++◌, flat_map, Option, Some}
-use Rattle.nds_plays.proofs.Words.{None, max, refl, sym, ◌∙◌, ap, subst, append_assoc, append-nil, arith, last_or, Puts, option_to_list}
-use Rattle.nds_plays.proofs.Words.{length-append, flat_map-append, LeftOut, Appended, AppendedFront, append_twice, front_after, front_of_more, At}
-use Rattle.nds_plays.proofs.Words.{Ending, Runs, FollowFrames, FollowLists, WholeFrame, frame_shown, frames_shown, last_frame, last_lists}
-use Rattle.nds_plays.proofs.Words.{lists_shown, MachineState, HasSoundParts, IsSound, Shown, reference, ConsoleState, Swapped, lists_records, ending}
-use Rattle.nds_plays.proofs.Words.{shown_after, Wrote, Latest, frame_records, kept_records, last_records, latest_after, latest_of, output_of}
-use Rattle.nds_plays.proofs.Words.{shown_while, swapped_lists, Keep, All, Last, Nothing}
-use Rattle.std.proofs.Common.{true≢false, Result, Ok, Err, is_err}
+use Rattle.nds_plays.proofs.Words.{All, Appended, AppendedFront, At, Bool, ConsoleState, Ending, Err, GoesOn, HasSoundParts, HasTurned, IsSound, Keep}
+use Rattle.nds_plays.proofs.Words.{Last, LeftOut, List, MachineState, None, Nothing, Ok, Option, Puts, RanOn, Result, Runs, RunsTo, Shown, Some}
+use Rattle.nds_plays.proofs.Words.{Swapped, TurnsUpTo, WholeFrame, [], ap, append-nil, append_assoc, append_twice, arith, ending, false, flat_map}
+use Rattle.nds_plays.proofs.Words.{flat_map-append, frame_records, frame_shown, frames_shown, front_after, front_of_more, if◌then◌else◌, is_err}
+use Rattle.nds_plays.proofs.Words.{last_frame, last_lists, last_or, last_records, latest_of, length, length-append, lists_records, lists_shown, max}
+use Rattle.nds_plays.proofs.Words.{most_after, most_shown, next_shown, no_turn, one_turn, option_to_list, reference, refl, shown_after, shown_now}
+use Rattle.nds_plays.proofs.Words.{subst, swapped_lists, sym, true, true≢false, ℕ, ◌*◌, ◌++◌, ◌<◌, ◌^◌, ◌∙◌, ◌∷◌, ◌≡◌, ◌≤◌}
+use Rattle.ds_machine.specs.FrameLaws.{FollowFrames, FollowLists, FramesAreFew}
+use Rattle.nds_plays.specs.Plays.{Wrote, WroteFront}
+use Rattle.nds_plays.specs.Records.{Latest, kept_records, latest_after, output_of, shown_while, shown_records}
 use Rattle.std.specs.Result.{OnOk}
-use Rattle.ds_machine.specs.FrameLaws.{FramesAreFew}
-use Rattle.ds_machine.specs.Reference.{next_shown}
 use Rattle.run_ahead.specs.ToEnd.{TurnsToEnd, at_end, counts, meets_stop}
-use Rattle.run_ahead.specs.TurnLaws.{GoesOn, RanOn, TurnsUpTo}
-use Rattle.run_ahead.specs.Turns.{HasTurned, no_turn, one_turn}
 use Rattle.run_ahead.specs.declared.turns.Turned.{Turned}
 use Rattle.run_ahead.specs.declared.turns.Turned.TheVariants as answers
 use Rattle.run_ahead.proofs.RunningOn.{raised_again, turned_twice}
 use Rattle.run_ahead.proofs.TurnExists.{turns_end}
 use Rattle.run_ahead.proofs.TurnRuns.{ran_to_end, turns_end_as_runs}
-use Rattle.nds_plays.specs.Inside.{RunsTo, most_after, most_shown, shown_now}
-use Rattle.nds_plays.specs.Plays.{WroteFront}
-use Rattle.nds_plays.specs.Records.{shown_records}
 use Rattle.nds_plays.proofs.Lengths.{all_short}
 
 -- ---- frames and lists, one after another

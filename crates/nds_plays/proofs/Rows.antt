@@ -1,6 +1,5 @@
-use Rattle.nds_plays.proofs.Words.{ℕ, ◌≡◌, ◌+◌, ◌-◌, ◌*◌, List, [], ◌++◌, take, refl, drop, sym, ◌∙◌, ap, arith, flat_map-append, little_bytes}
-use Rattle.nds_plays.proofs.Words.{halves}
-use Rattle.std.proofs.Common.{take-append-drop}
+use Rattle.nds_plays.proofs.Words.{List, [], ap, arith, drop, flat_map-append, halves, little_bytes, refl, sym, take, take-append-drop, ℕ, ◌*◌, ◌++◌}
+use Rattle.nds_plays.proofs.Words.{◌+◌, ◌-◌, ◌∙◌, ◌≡◌}
 use Rattle.std.proofs.Math.Seq.{take-add}
 
 -- Pixels as bytes, row by row.

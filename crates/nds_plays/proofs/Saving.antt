@@ -1,4 +1,4 @@
-use Rattle.nds_plays.proofs.Words.{ℕ, ◌≡◌, List, ◌∙◌, ap, subst, Ending, At, IsOver, Runs, Stopped, TickMachine, over, stops, more, ConsoleState}
+use Rattle.nds_plays.proofs.Words.{At, ConsoleState, Ending, IsOver, List, Runs, Stopped, TickMachine, ap, more, over, stops, subst, ℕ, ◌∙◌, ◌≡◌}
 use Rattle.sha2.specs.Sha256.{sha256}
 use Rattle.run_ahead.specs.Saved.{IsReadBack, state_bytes}
 use Rattle.nds_plays.specs.States.{ComesBack}

@@ -1,4 +1,4 @@
-use Rattle.nds_plays.proofs.Words.{ℕ, ◌≡◌, List, Option, Some, sym, ◌∙◌, ConsoleState}
+use Rattle.nds_plays.proofs.Words.{ConsoleState, List, Option, Some, sym, ℕ, ◌∙◌, ◌≡◌}
 use Rattle.std.proofs.lemmas.Option.{same_Some}
 use Rattle.ds_io.specs.Shelves.{Named}
 use Rattle.ds_machine.specs.Booted.{machine_booted}

@@ -1,15 +1,11 @@
-use Rattle.nds_plays.proofs.Words.{ℕ, zero, suc, ◌≡◌, ◌≤◌, ◌<◌, ◌+◌, ◌*◌, max, inl, inr, Bool, List, [], ◌++◌, length, take, Option, Some, None, ◌-◌}
-use Rattle.nds_plays.proofs.Words.{refl, sym, ◌∙◌, ap, subst, arith, append-nil, concat, LeftOut, Proc, Appended, AppendedFront, append_twice}
-use Rattle.nds_plays.proofs.Words.{front_after, front_of_more, Ending, Runs, IsOver, At, Stopped, over, Shown, reference, dues_of, MachineState}
-use Rattle.nds_plays.proofs.Words.{ConsoleState, run_lines}
-use Rattle.std.proofs.Common.{option_to_list, length-append}
+use Rattle.nds_plays.proofs.Words.{Appended, AppendedFront, At, Bool, ConsoleState, Ending, HasRuns, IsOver, LeftOut, List, MachineState, None}
+use Rattle.nds_plays.proofs.Words.{Option, Proc, Runs, Shown, Some, Stopped, Traces, [], ap, append-nil, append_twice, arith, concat, dues_of}
+use Rattle.nds_plays.proofs.Words.{front_after, front_of_more, inl, inr, length, length-append, max, one_more_turn, option_to_list, over, reference}
+use Rattle.nds_plays.proofs.Words.{refl, run_lines, run_to, subst, suc, sym, take, trace_of, zero, ℕ, ◌*◌, ◌++◌, ◌+◌, ◌-◌, ◌<◌, ◌∙◌, ◌≡◌, ◌≤◌}
 use Rattle.std.proofs.Math.Seq.{take-append-add}
 use Rattle.std.proofs.Math.Nat.{le-max_left}
 use Rattle.std.proofs.lemmas.List.Folds.{concat-append}
 use Rattle.ds_io.specs.Faults.{Rose}
-use Rattle.run_ahead.specs.TurnLaws.{HasRuns}
-use Rattle.run_ahead.specs.Turns.{one_more_turn, run_to}
-use Rattle.nds_plays.specs.Watches.{trace_of, Traces}
 use Rattle.nds_plays.proofs.Leads.{GoesOnFrom, Leads, StopsFrom, leads_none, leads_twice}
 use Rattle.nds_plays.specs.declared.plays.Played.TheVariants as answers
 

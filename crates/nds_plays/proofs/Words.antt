@@ -1,10 +1,8 @@
 -- The words of lower crates and of this one that its proofs speak in, from one place.
-pub use Rattle.std.proofs.Common.{Bool, List, None, Option, Some, [], ap, append-nil, append_assoc, arith, drop, false, flat_map, if◌then◌else◌, inl}
-pub use Rattle.std.proofs.Common.{inr, length, map, max, refl, subst, suc, sym, take, true, zero, ℕ, ◌*◌, ◌++◌, ◌+◌, ◌-◌, ◌<◌, ◌^◌, ◌∙◌, ◌∷◌, ◌≡◌}
-pub use Rattle.std.proofs.Common.{◌≤◌}
-pub use Rattle.std.proofs.lemmas.List.{length-append}
+pub use Rattle.std.proofs.Common.{Bool, Err, List, None, Ok, Option, Result, Some, [], ap, append-nil, append_assoc, arith, drop, false, flat_map}
+pub use Rattle.std.proofs.Common.{if◌then◌else◌, inl, inr, is_err, length, length-append, map, max, nat_eq, nat_lt, refl, subst, suc, sym, take}
+pub use Rattle.std.proofs.Common.{take-append-drop, true, true≢false, zero, ℕ, ◌*◌, ◌++◌, ◌+◌, ◌-◌, ◌<◌, ◌^◌, ◌∙◌, ◌∷◌, ◌≡◌, ◌≤◌}
 pub use Rattle.std.proofs.lemmas.List.Concat.{flat_map-append}
-pub use Rattle.std.proofs.lemmas.List.FromFn.{map-range_with_len_more}
 pub use Rattle.std.proofs.lemmas.Result.{err_from_is_err_and}
 pub use Rattle.std.specs.List.{concat, last_or, range_with_len}
 pub use Rattle.std.specs.Prelude.{option_to_list}
@@ -18,23 +16,23 @@ pub use Rattle.ds_io.proofs.Putting.{puts_then, rose_within}
 pub use Rattle.ds_io.proofs.SinkLemmas.{append_none, append_twice, front_after, front_of_more}
 pub use Rattle.ds_io.specs.Puts.{Puts}
 pub use Rattle.ds_io.specs.Sinks.{Appended, AppendedFront}
-pub use Rattle.ds_machine.specs.FrameLaws.{FollowFrames, FollowLists}
-pub use Rattle.ds_machine.specs.Frames.{WholeFrame, frame_shown, frames_shown, last_frame, last_lists, lists_shown}
-pub use Rattle.ds_machine.specs.Reference.{Shown, dues_of, reference}
+pub use Rattle.ds_machine.specs.Frames.{WholeFrame, frame_shown, framed_of, frames_shown, last_frame, last_lists, lists_shown}
+pub use Rattle.ds_machine.specs.Inspections.{memory_of, seen_of}
+pub use Rattle.ds_machine.specs.Reference.{Shown, dues_of, next_shown, reference}
 pub use Rattle.ds_machine.specs.Sound.{HasSoundParts, IsSound}
 pub use Rattle.ds_machine.specs.States.{MachineState}
 pub use Rattle.ds_runs.proofs.Lists.{least_unique}
-pub use Rattle.ds_runs.proofs.RunLaws.{not_both, same_makes}
-pub use Rattle.ds_runs.specs.Runs.{At, Ending, IsOver, Makes, Runs, Stopped, Stops, TickMachine, more, over, stops}
+pub use Rattle.ds_runs.proofs.RunLaws.{not_both, over_here, same_makes}
+pub use Rattle.ds_runs.specs.Runs.{At, Ending, IsLeast, IsOver, Makes, Runs, Stopped, Stops, TickMachine, due_at, more, over, stops}
 pub use Rattle.gx_geometry.specs.States.{Swapped}
 pub use Rattle.nds_records.specs.Lists.{lists_records}
-unfoldable pub use Rattle.nds_records.specs.Numbers.{halves, longs}
+unfoldable pub use Rattle.nds_records.specs.Numbers.{halves, longs, words}
 pub use Rattle.nds_words.specs.declared.commands.Keep.{Keep}
 pub use Rattle.nds_words.specs.declared.commands.Keep.TheVariants.{All, Last, Nothing}
 pub use Rattle.run_ahead.specs.Consoles.{ConsoleState}
-pub use Rattle.run_ahead.specs.TickTurns.{IsTickBefore}
+pub use Rattle.run_ahead.specs.TurnLaws.{GoesOn, HasRuns, RanOn, TurnsUpTo}
+pub use Rattle.run_ahead.specs.Turns.{HasTurned, TakesQuiet, no_turn, one_more_turn, one_turn, run_to}
 unfoldable pub use Rattle.nds_plays.specs.Demos.{body, drawn}
-pub use Rattle.nds_plays.specs.Inside.{ending, shown_after, swapped_lists}
-pub use Rattle.nds_plays.specs.Plays.{Wrote}
-pub use Rattle.nds_plays.specs.Records.{Latest, frame_records, kept_records, last_records, latest_after, latest_of, output_of, shown_while}
-pub use Rattle.nds_plays.specs.Watches.{bytes_at, run_lines, step_lines}
+pub use Rattle.nds_plays.specs.Inside.{RunsTo, ending, most_after, most_shown, shown_after, shown_now, swapped_lists}
+pub use Rattle.nds_plays.specs.Records.{frame_records, last_records, latest_of}
+pub use Rattle.nds_plays.specs.Watches.{LinesAreOne, Traces, bytes_at, run_lines, seen_line, step_lines, told_of, trace_of}

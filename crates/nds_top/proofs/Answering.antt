@@ -1,5 +1,6 @@
-use Rattle.nds_top.proofs.Words.{ℕ, ◌≡◌, List, Bool, Option, Some, max, Told, ConsoleState, Keep, Status, Done, Usage, NoFile, ReadFault}
-use Rattle.nds_top.proofs.Words.{WriteFault, TooLong, BadHeader, BadScript, LeftOut, BadText, BadState, NoMemory, around, RanFrom, RunsSo}
+use Rattle.nds_top.proofs.Words.{BadState, Bool, ConsoleState, Done, Keep, List, NoMemory, Option, RanFrom, RunsSo, Some, Status, Told, Usage, around}
+use Rattle.nds_top.proofs.Words.{max, ℕ, ◌≡◌}
+use Rattle.nds_answers.specs.declared.statuses.Status.TheVariants.{NoFile, ReadFault, WriteFault, TooLong, BadHeader, BadScript, LeftOut, BadText}
 
 module _ {F S : Type 0} (told : F → Option Told) (shelf_faults : F → ℕ) (tells : S → Bool) (taken : S → List ℕ → Type 0) (faults : S → ℕ) (shelf_old shelf_new : F) (old new : S) where
   -- what running a console did, in the call

@@ -1,22 +1,17 @@
-use Rattle.nds_top.proofs.Words.{ℕ, ◌≡◌, ◌≢◌, ◌<◌, ◌+◌, nat_lt, List, [], inl, inr, Option, Some, None, Ok, option_map, refl, sym, ◌∙◌, ap}
-use Rattle.nds_top.proofs.Words.{subst, arith, IsSomeAnd, none-some, same_Some, sha256, KeyLine, Named}
-use Rattle.nds_top.proofs.Words.{file_of, At, Ending, Runs, machine_booted, Shown, reference}
-use Rattle.nds_top.proofs.Words.{HasSoundParts, MachineState, ConsoleState, read_state, TurnsToEnd, Asked, AskResume, AskRun, AskSave, Asks, Keep}
-use Rattle.nds_top.proofs.Words.{AreKeys, IsCart, cartridge, script, Status, Done, NoMemory, Call, GivesBy, switched_on, latest_of, output_of}
-use Rattle.nds_top.proofs.Words.{IsState, saved_state, CommandGives, Gives, nothing, command, HadNoFault, SavedBy}
-use Rattle.std.proofs.Common.{◌∷◌}
+use Rattle.nds_top.proofs.Words.{AreKeys, At, Call, ComesBack, CommandGives, ConsoleState, Done, Ending, FromBoot, Gives, GivesBy, HadNoFault, IsCart}
+use Rattle.nds_top.proofs.Words.{IsSomeAnd, IsState, Keep, KeyLine, List, MachineState, MachineStep, Named, NoMemory, None, Ok, Option, Runs, SavedBy}
+use Rattle.nds_top.proofs.Words.{Shown, Some, StatesAreShort, Status, TurnsToEnd, [], ap, arith, cartridge, command, file_of, inl, inr, latest_of}
+use Rattle.nds_top.proofs.Words.{machine_booted, more, nat_lt, none-some, nothing, option_map, output_of, over, read_state, reference, reference_step}
+use Rattle.nds_top.proofs.Words.{refl, same_Some, saved_state, script, sha256, stops, subst, switched_on, sym, ℕ, ◌+◌, ◌<◌, ◌∙◌, ◌∷◌, ◌≡◌, ◌≢◌}
+use Rattle.ds_machine.specs.Sound.{HasSoundParts}
+use Rattle.nds_words.specs.Words.{Asked, AskResume, AskRun, AskSave, Asks}
 use Rattle.ds_base.specs.declared.left_out.LeftOut.{LeftOut}
-use Rattle.ds_runs.specs.Runs.{MachineStep, over, stops, more}
 use Rattle.ds_runs.specs.Runs as runs
-use Rattle.ds_machine.specs.Reference.{reference_step}
 use Rattle.ds_machine.specs.Saved.{script_from}
 use Rattle.ds_machine.specs.Statuses.{left_by}
 use Rattle.ds_machine.specs.Touched.{StepsKeepFile}
 use Rattle.ds_machine.specs.WithinLaws.{RunsKeepScript}
-use Rattle.run_ahead.specs.Saved.{StatesAreShort}
-use Rattle.nds_plays.specs.Calls.{FromBoot}
 use Rattle.nds_plays.specs.Cuts.{RunsAreCut}
-use Rattle.nds_plays.specs.States.{ComesBack}
 use Rattle.nds_top.specs.Resumes.{HaveSameFiles, WroteTheRest}
 use Rattle.nds_top.proofs.OneAnswer.{Comes, ResumeWrites, TopLaws, WroteSo, command_told, status_at}
 use Rattle.ds_machine.proofs.AtBoot.{booted_parts}

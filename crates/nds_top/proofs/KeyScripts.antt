@@ -1,4 +1,4 @@
-use Rattle.nds_top.proofs.Words.{ℕ, ◌≡◌, ◌<◌, ◌+◌, List, [], Option, Some, None, sym, subst, arith, KeyLine, Named, AreKeys}
+use Rattle.nds_top.proofs.Words.{AreKeys, KeyLine, List, Named, None, Option, Some, [], arith, subst, sym, ℕ, ◌+◌, ◌<◌, ◌≡◌}
 use Rattle.ds_base.specs.KeyLines.{AreKeyLines}
 
 -- the lines of a key script rise

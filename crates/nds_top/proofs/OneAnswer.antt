@@ -1,24 +1,19 @@
-use Rattle.nds_top.proofs.Words.{ℕ, ◌≡◌, ◌≢◌, ◌<◌, ◌≤◌, ◌⊎◌, inl, inr, List, [], length, take, Option, Some, None, refl, sym, ◌∙◌, ap, subst, arith}
-use Rattle.nds_top.proofs.Words.{IsSomeAnd, Proc, Named, file_of, Ending, At, Runs, machine_booted, Shown, reference, MachineState, IsFirstBad}
-use Rattle.nds_top.proofs.Words.{IsListing, ConsoleState, TurnsToEnd, Asked, AskRun, AskSave, AskResume, Asks, Keep, status_number, Status, Call}
-use Rattle.nds_top.proofs.Words.{GivesBy, switched_on, same_Some, AreKeys, IsCart, IsFileRead, Refuses, RefusesCart, RefusesRun, most_bytes}
-use Rattle.nds_top.proofs.Words.{latest_of, output_of, RanFrom, DemoGives, TracedBy, WroteAfter, demo_booted, demo_of, peeked, RefusesFiles}
-use Rattle.nds_top.proofs.Words.{IsBadState, IsState, saved_after, SavedBy, CommandGives, Gives, nothing, command, HadNoFault}
+use Rattle.nds_top.proofs.Words.{AreKeys, At, Call, CanBeDone, ComesTo, CommandGives, ConsoleState, DemoGives, Ending, Gives, GivesBy, HadNoFault}
+use Rattle.nds_top.proofs.Words.{IsBadState, IsCart, IsFileRead, IsFirstBad, IsListing, IsSomeAnd, IsState, Keep, List, MachineState, Named, None}
+use Rattle.nds_top.proofs.Words.{Option, Proc, RanFrom, Refuses, RefusesCart, RefusesFiles, RefusesRun, ResumeGives, Runs, SavedBy, Seated, Shown}
+use Rattle.nds_top.proofs.Words.{Some, Status, Stopped, TracedBy, TurnsToEnd, Written, WroteAfter, [], ap, arith, command, demo_booted, demo_of}
+use Rattle.nds_top.proofs.Words.{file_of, inl, inr, latest_of, length, machine_booted, most_bytes, most_text, nothing, output_of, peeked, reference}
+use Rattle.nds_top.proofs.Words.{refl, same_Some, saved_after, status_number, subst, switched_on, sym, take, ℕ, ◌<◌, ◌∙◌, ◌≡◌, ◌≢◌, ◌≤◌, ◌⊎◌}
+use Rattle.nds_words.specs.Words.{Asked, AskRun, AskSave, AskResume, Asks, AskList, AskAsm, AskTrace, AskPeek, AskDemo, WordsAskForOne}
 use Rattle.std.specs.List.{concat}
 use Rattle.ds_base.specs.declared.left_out.LeftOut.{LeftOut}
 use Rattle.ds_runs.specs.Laws.{RunsAreOne}
-use Rattle.ds_runs.specs.Runs.{Stopped}
 use Rattle.asm_text.specs.declared.sets.Set.{Set}
 use Rattle.run_ahead.specs.ToEndLaws.{TurnsAreOne}
-use Rattle.nds_words.specs.Words.{AskList, AskAsm, AskTrace, AskPeek, AskDemo, WordsAskForOne}
 use Rattle.nds_answers.specs.declared.statuses.Status.TheVariants as statuses
-use Rattle.nds_plays.specs.Calls.{Seated, Written}
 use Rattle.nds_top.specs.ListingAnswers.{AsmGives, ListGives, listing_of}
-use Rattle.nds_answers.specs.Loads.{most_text}
 use Rattle.nds_plays.specs.Watches.{IsCutTrace, IsWholeTrace, LinesAreOne, run_lines, trace_of}
-use Rattle.nds_top.specs.StateAnswers.{ResumeGives}
 use Rattle.nds_top.proofs.ResumeOutcomes.{ResumeComes, bad_state, resume_comes_one, resume_refused, resumed, state_comes}
-use Rattle.nds_top.specs.Laws.{CanBeDone, ComesTo}
 use Rattle.nds_top.proofs.Outcomes.{IsOne, ReadLaws, RunComes, loaded, cart_fine, cart_refusal, cart_refused, loaded_comes, memory_or_not, not_both, read_fine, refusal, refused, run_comes_one, run_refused, same_file}
 
 -- What is asked for comes to one status and one list of bytes, by the files alone.

@@ -1,12 +1,11 @@
-use Rattle.nds_top.proofs.Words.{ℕ, ◌≡◌, ◌≢◌, ◌<◌, ◌≤◌, ◌⊎◌, inl, inr, nat_lt, Bool, List, [], length, Option, Some, None, option_map, refl, sym, ◌∙◌}
-use Rattle.nds_top.proofs.Words.{ap, subst, arith, none-some, same_Some, KeyLine, Named, file_of, machine_booted, MachineState, IsFirstBad, IsListing}
-use Rattle.nds_top.proofs.Words.{status_number, Status, Done, Usage, NoFile, ReadFault, WriteFault, TooLong, BadHeader, BadScript, LeftOut, BadText}
-use Rattle.nds_top.proofs.Words.{BadState, NoMemory, AreKeys, IsCart, IsFileRead, Refuses, RefusesCart, RefusesRun, cartridge, script, most_bytes}
-use Rattle.std.proofs.Common.{if◌then◌else◌, true, false}
+use Rattle.nds_top.proofs.Words.{AreKeys, BadState, Bool, Done, IsCart, IsFileRead, IsFirstBad, IsListing, KeyLine, List, MachineState, Named}
+use Rattle.nds_top.proofs.Words.{NoMemory, None, Option, Refuses, RefusesCart, RefusesRun, RefusesScript, Some, Status, Usage, [], ap, arith}
+use Rattle.nds_top.proofs.Words.{cartridge, false, file_of, if◌then◌else◌, inl, inr, length, machine_booted, most_bytes, most_script, nat_lt}
+use Rattle.nds_top.proofs.Words.{none-some, option_map, refl, same_Some, script, status_number, subst, sym, true, ℕ, ◌<◌, ◌∙◌, ◌≡◌, ◌≢◌, ◌≤◌, ◌⊎◌}
+use Rattle.nds_answers.specs.declared.statuses.Status.TheVariants.{NoFile, ReadFault, WriteFault, TooLong, BadHeader, BadScript, LeftOut, BadText}
 use Rattle.ds_header.specs.Rules.{fault_of}
 use Rattle.ds_header.specs.declared.faults.HeaderFault.{HeaderFault}
 use Rattle.nds_words.specs.Scripts.{IsFirstBadAt, IsScript}
-use Rattle.nds_answers.specs.Loads.{RefusesScript, most_script}
 
 -- What comes of the files that are asked for, by what they are: a refusal, or their bytes.
 

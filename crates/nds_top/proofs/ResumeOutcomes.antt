@@ -1,8 +1,6 @@
-use Rattle.nds_top.proofs.Words.{ℕ, ◌≡◌, ◌≢◌, List, [], Option, Some, Ok, refl, sym, ◌∙◌, ap, subst, same_Some, sha256, KeyLine, Named, file_of}
-use Rattle.nds_top.proofs.Words.{MachineState, ConsoleState, read_state, AreKeys, IsCart, IsFileRead, RefusesFiles, Status, BadState, NoMemory}
-use Rattle.nds_top.proofs.Words.{IsBadState, IsState}
-use Rattle.std.proofs.Common.{Result, Err}
-use Rattle.nds_answers.specs.Loads.{most_state, run_files, state_file}
+use Rattle.nds_top.proofs.Words.{AreKeys, BadState, ConsoleState, Err, IsBadState, IsCart, IsFileRead, IsState, KeyLine, List, MachineState, Named}
+use Rattle.nds_top.proofs.Words.{NoMemory, Ok, Option, RefusesFiles, Result, Some, Status, [], ap, file_of, most_state, read_state, refl, run_files}
+use Rattle.nds_top.proofs.Words.{same_Some, sha256, state_file, subst, sym, ℕ, ◌∙◌, ◌≡◌, ◌≢◌}
 use Rattle.nds_top.proofs.Outcomes.{IsOne, ReadLaws, RunComes, cart_one, keys_one, loaded_comes, not_both, read_fine, refusal, refused, run_comes_one, run_refused, same_file}
 
 -- What comes of the files of a run that goes on, by what they are.

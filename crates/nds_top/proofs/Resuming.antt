@@ -1,5 +1,4 @@
-use Rattle.nds_top.proofs.Words.{ℕ, ◌≡◌, List, Option, Some, sym, ◌∙◌, subst, same_Some, Named, ConsoleState, IsState}
-use Rattle.nds_plays.specs.States.{IsResumed}
+use Rattle.nds_top.proofs.Words.{ConsoleState, IsResumed, IsState, List, Named, Option, Some, same_Some, subst, sym, ℕ, ◌∙◌, ◌≡◌}
 
 -- the console that was seated is the one that the saved file stands for
 pub seated_state : (files : Option (List Named)) (state cart : List ℕ) (keys : Option (List ℕ)) (ticks : ℕ) (seat : Option ConsoleState) (start : ConsoleState) → IsResumed files state cart keys ticks seat

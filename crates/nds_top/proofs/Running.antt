@@ -1,4 +1,4 @@
-use Rattle.nds_top.proofs.Words.{ℕ, ◌≡◌, ◌<◌, max, arith}
+use Rattle.nds_top.proofs.Words.{arith, max, ℕ, ◌<◌, ◌≡◌}
 
 -- What is said of the console that ran.
 

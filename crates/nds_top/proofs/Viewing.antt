@@ -1,6 +1,5 @@
-use Rattle.nds_top.proofs.Words.{ℕ, ◌≡◌, List, Bool, Option, Some, None, refl, subst, arith, KeyLine, Proc, Told, machine_booted, Shown, MachineState}
-use Rattle.nds_top.proofs.Words.{ConsoleState, around, switched_on, IsReady, saved_after, WritesAfter, played_status, SavedBy, TracedBy}
-use Rattle.nds_top.proofs.Words.{WroteAfter}
+use Rattle.nds_top.proofs.Words.{Bool, ConsoleState, IsReady, KeyLine, List, MachineState, None, Option, Proc, SavedBy, Shown, Some, Told, TracedBy}
+use Rattle.nds_top.proofs.Words.{WritesAfter, WroteAfter, arith, around, machine_booted, played_status, refl, saved_after, subst, switched_on, ℕ, ◌≡◌}
 use Rattle.nds_answers.specs.declared.statuses.Status.TheVariants as statuses
 use Rattle.nds_plays.specs.declared.plays.Played.{Played}
 use Rattle.nds_plays.specs.declared.plays.Played.TheVariants.{Done, LeftOut, WriteFault}

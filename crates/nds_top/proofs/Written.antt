@@ -1,4 +1,4 @@
-use Rattle.std.proofs.Common.{ℕ, ◌≡◌, List, [], Bool, sym, subst}
+use Rattle.nds_top.proofs.Words.{Bool, List, [], subst, sym, ℕ, ◌≡◌}
 use Rattle.ds_io.specs.Sinks.{Appended}
 use Rattle.ds_io.proofs.SinkLemmas.{append_none}
 

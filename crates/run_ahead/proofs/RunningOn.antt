@@ -1,9 +1,7 @@
-use Rattle.run_ahead.proofs.Words.{ℕ, ◌≡◌, ◌+◌, ◌⊎◌, inl, inr, [], Option, Some, None, true≢false, max, refl, sym, ◌∙◌, ap, subst, arith, LeftOut}
-use Rattle.run_ahead.proofs.Words.{last_frame, last_lists, MachineState, ConsoleState, Turns, run_to, raised, raised_by}
-use Rattle.run_ahead.proofs.Words.{one_more_turn, counted_of, turns_in, HasTurned, no_turn, one_turn, GoesOn, RanOn}
-use Rattle.std.proofs.Common.{is_some}
-use Rattle.run_ahead.specs.TurnLaws.{EachRan, RunsOn, TurnsUpTo, shown_in}
-use Rattle.ds_machine.specs.FrameLaws.{FollowFrames, FollowLists}
+use Rattle.run_ahead.proofs.Words.{ConsoleState, EachRan, FollowFrames, FollowLists, GoesOn, HasTurned, LeftOut, MachineState, None, Option, RanOn}
+use Rattle.run_ahead.proofs.Words.{RunsOn, Some, Turns, TurnsUpTo, [], ap, arith, counted_of, inl, inr, is_some, last_frame, last_lists, max, no_turn}
+use Rattle.run_ahead.proofs.Words.{one_more_turn, one_turn, refl, run_to, shown_in, subst, sym, true≢false, turns_in, ℕ, ◌+◌, ◌∙◌, ◌≡◌, ◌⊎◌}
+use Rattle.run_ahead.specs.Inside.{raised, raised_by}
 use Rattle.run_ahead.specs.declared.turns.Turned as turned
 use Rattle.run_ahead.specs.declared.turns.Turned.TheVariants as answers
 use Rattle.run_ahead.proofs.TurnLaws.{turns_add_up}

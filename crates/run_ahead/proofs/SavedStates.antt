@@ -1,20 +1,16 @@
-use Rattle.run_ahead.proofs.Words.{rules, ℕ, suc, ◌≡◌, ◌+◌, ◌*◌, ◌≤◌, ◌<◌, ◌^◌, true, List, [], ◌∷◌, ◌++◌, length, None, Ok, Err, refl, sym, ◌∙◌, ap}
-use Rattle.run_ahead.proofs.Words.{subst, slice_index, bytes_written, Left, ReadAnswer, ◌>>=◌, read_format, Unpacked, HasMachineBounds, dues_of}
-use Rattle.run_ahead.proofs.Words.{IsSound, MachineState, counts_of, IsWithinTick, IsOver, ConsoleState, head_format, FailsState, IsReadBack}
-use Rattle.run_ahead.proofs.Words.{console_of, format_behind, head_of, read_console, read_state, state_bytes}
-use Rattle.std.proofs.Common.{bytes_eq, Result}
-use Rattle.std.proofs.lemmas.List.{append-nil}
+use Rattle.run_ahead.proofs.Words.{ConsoleState, Err, HasMachineBounds, IsErrAnd, IsOver, IsSound, IsWithinTick, KeyLine, Left, List, MachineState}
+use Rattle.run_ahead.proofs.Words.{MachinesComeBack, None, Ok, ReadAnswer, Result, Unpacked, [], ap, append-nil, bytes_eq, counts_of, dues_of}
+use Rattle.run_ahead.proofs.Words.{eqb-true, head_format, length, read_format, refl, rules, slice_index, subst, suc, sym, true, ℕ, ◌*◌, ◌++◌, ◌+◌}
+use Rattle.run_ahead.proofs.Words.{◌<◌, ◌>>=◌, ◌^◌, ◌∙◌, ◌∷◌, ◌≡◌, ◌≤◌}
+use Rattle.ds_state.specs.Formats.{bytes_written}
+use Rattle.run_ahead.specs.Saved.{FailsState, IsReadBack, console_of, format_behind, head_of, read_console, read_state, state_bytes, GivesState}
+use Rattle.run_ahead.specs.Saved.{StatesHaveOneSpelling, read_whole, where_whole}
 use Rattle.std.proofs.lemmas.Slice.Eq.{bytes_eq-Decides}
-use Rattle.std.proofs.lemmas.Bool.{eqb-true}
-use Rattle.std.specs.Prelude.{IsErrAnd}
-use Rattle.ds_base.specs.declared.keys.KeyLine.{KeyLine}
 use Rattle.ds_state.proofs.Exact.{one_spelling, round_trips}
 use Rattle.ds_state.proofs.Written.{written_after}
 use Rattle.ds_state.proofs.Standing.{IsExact, StandsFor}
 use Rattle.ds_state.specs.FormatLaws.{RoundTrips}
 use Rattle.ds_machine.specs.Saved.{MachinesAreSaved, script_from}
-use Rattle.ds_machine.specs.Back.{MachinesComeBack}
-use Rattle.run_ahead.specs.Saved.{GivesState, StatesHaveOneSpelling, read_whole, where_whole}
 use Rattle.run_ahead.specs.declared.heads.Head.{Head}
 
 -- A console in bytes: they are read back as it, and no others are read as it.

@@ -1,10 +1,8 @@
-use Rattle.run_ahead.proofs.Words.{rules, ℕ, zero, suc, ◌≡◌, ◌+◌, ◌-◌, ◌*◌, ◌≤◌, ◌==◌, ◌&&◌, ◌||◌, not, Bool, true, false, List, [], ◌∷◌, length}
-use Rattle.run_ahead.proofs.Words.{Option, Some, None, Ok, sym, ◌∙◌, ap, subst, arith, Proc, Nine, Seven, Format, done, then_field, then_part, list}
-use Rattle.run_ahead.proofs.Words.{code_width, Left, ◌>>=◌, read_format, head_format, ConsoleState, console_of, format_behind, read_console}
-use Rattle.run_ahead.proofs.Words.{read_state}
-use Rattle.std.proofs.Common.{map, nat_le}
-use Rattle.std.proofs.lemmas.Bool.{and_parts}
-use Rattle.std.specs.List.{list_all}
+use Rattle.run_ahead.proofs.Words.{Bool, ConsoleState, KeyLine, Left, List, Nine, None, Ok, Option, Proc, Seven, Some, [], and_parts, ap, arith}
+use Rattle.run_ahead.proofs.Words.{false, head_format, length, list_all, map, nat_le, not, read_format, rules, subst, suc, sym, true, zero, ℕ, ◌&&◌}
+use Rattle.run_ahead.proofs.Words.{◌*◌, ◌+◌, ◌-◌, ◌==◌, ◌>>=◌, ◌||◌, ◌∙◌, ◌∷◌, ◌≡◌, ◌≤◌}
+use Rattle.ds_state.specs.Formats.{Format, done, then_field, then_part, list, code_width, word_format, signed_format}
+use Rattle.run_ahead.specs.Saved.{console_of, format_behind, read_console, read_state, StatesAreShort}
 use Rattle.arm_core.specs.Saved.{registers_format}
 use Rattle.cp15_tcm.specs.Saved.{cp15_format}
 use Rattle.ds_base.specs.Numbers.{width_bytes, zeroes}
@@ -16,9 +14,7 @@ use Rattle.ds_card.specs.Saved.{card_format}
 use Rattle.ds_dma.specs.Saved.{channel_format_by, dma_format_by}
 use Rattle.ds_ipc.specs.Saved.{ipc_format, side_format}
 use Rattle.ds_math.specs.Saved.{divider_format, root_format}
-use Rattle.ds_state.specs.Formats.{word_format, signed_format}
 use Rattle.ds_timers.specs.Saved.{irq_format_by, timer_format, timers_format}
-use Rattle.ds_base.specs.declared.keys.KeyLine.{KeyLine}
 use Rattle.ds_machine.specs.Saved.{machine_format, saved_size}
 use Rattle.gx_fifo.specs.Saved.{count_by, entry_format, gx_format_by}
 use Rattle.gx_geometry.specs.Saved.{geometry_format, holds_recent, light_format, lists_format, place_of_number, polygon_format, unless_none, vertex_format}
@@ -32,7 +28,6 @@ use Rattle.video2d.specs.declared.engines.Engine.{Engine}
 use Rattle.video2d.specs.declared.engines.Engine.TheVariants.{A, B}
 use Rattle.video2d.specs.Saved.{frame_format, frame_pixels, pixel_format, point_format, ports_format, row_format, row_width, rows_format, video_format}
 use Rattle.vram_banks.specs.Saved.{banks_format, banks_size}
-use Rattle.run_ahead.specs.Saved.{StatesAreShort}
 use Rattle.run_ahead.proofs.FewBytes.{ReadsFew, ◌⨾◌, reads_few}
 use Rattle.run_ahead.proofs.SavedStates.{all_was_read, bound, ok_same}
 

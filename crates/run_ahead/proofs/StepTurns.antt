@@ -1,26 +1,17 @@
-use Rattle.run_ahead.proofs.Words.{ℕ, ◌≡◌, ◌≤◌, ◌<◌, ◌+◌, ◌*◌, ◌^◌, ◌⊎◌, inl, inr, ◌==◌, ◌&&◌, ◌||◌, nat_lt, max, ◌∷◌, List, Option, Some, None, Bool}
-use Rattle.run_ahead.proofs.Words.{true, false, true≢false, refl, sym, ◌∙◌, ap, subst, arith, [], IsSome, LeftOut, Proc, Tick, actor_of, IsLeast}
-use Rattle.run_ahead.proofs.Words.{IsOver, MachineStep, Makes, due_at, acting_dues, is_behind, IsRunning, CatchesUpFor, CatchesUpIf, ComesBeforeAll}
-use Rattle.run_ahead.proofs.Words.{observes_by, Shown, dues_of, next_shown, reference_step, IsSound, Steps, MachineState, counts_of, IsLeastBelow}
-use Rattle.run_ahead.proofs.Words.{ActedLeaves, ActedStops, acted_keeps, acted_stops, caught_so, due_of_rank, few_where_stops, running_along}
-use Rattle.run_ahead.proofs.Words.{ConsoleState, open_of, TookStretch, TookTurn, MeetsStop, StopsActing, TakesActing, TakesQuiet, Turns}
-use Rattle.run_ahead.proofs.Words.{one_more_turn, run_to, acting_low, acting_processor, Ends, HasEnds, low_or_high, Nine, Seven, own_tick}
-use Rattle.run_ahead.proofs.Words.{processor_of, rank_of, tick_of}
+use Rattle.run_ahead.proofs.Words.{Acted, ActedKeeps, ActedLeaves, ActedStops, Bool, CatchesUpFor, CatchesUpIf, ComesBeforeAll, ConsoleState, Ends}
+use Rattle.run_ahead.proofs.Words.{Fits, HasEnds, IsLeast, IsLeastBelow, IsOver, IsRunning, IsSome, IsSound, LeftOut, List, MachineState, MachineStep}
+use Rattle.run_ahead.proofs.Words.{Makes, MeetsStop, Nine, None, Option, Proc, Seven, Shown, Some, Steps, StopsActing, TakesActing, TakesQuiet, Tick}
+use Rattle.run_ahead.proofs.Words.{TookStretch, TookTurn, Turns, [], acted_keeps, acted_stops, acting_dues, acting_low, acting_processor, actor_of}
+use Rattle.run_ahead.proofs.Words.{acts_then, ap, arith, caught_more, caught_so, counts_of, due_at, due_of_rank, due_or_never, dues_of, false}
+use Rattle.run_ahead.proofs.Words.{few_where_stops, inl, inr, is_behind, is_blocked, is_due_before, loud_same, low_or_high, ltb-false, max, nat_lt}
+use Rattle.run_ahead.proofs.Words.{next_shown, observes_by, one_more_turn, open_of, or_parts, own_tick, processor_of, rank_of, reference_step, refl}
+use Rattle.run_ahead.proofs.Words.{run_to, running_acted, running_along, running_taken, sort_rank, subst, sym, tick_of, true, true≢false, w64, ℕ}
+use Rattle.run_ahead.proofs.Words.{◌&&◌, ◌*◌, ◌+◌, ◌<◌, ◌==◌, ◌^◌, ◌||◌, ◌∙◌, ◌∷◌, ◌≡◌, ◌≤◌, ◌⊎◌}
 use Rattle.ds_machine.specs.NextEvents.{least_of}
-use Rattle.ds_machine.specs.Steps.{is_blocked}
-use Rattle.ds_machine.specs.TurnLaws.{due_or_never}
-use Rattle.ds_machine.proofs.DueTicks.{sort_rank}
 use Rattle.ds_machine.proofs.FastSteps.{wait_is}
-use Rattle.std.proofs.Common.{Fits, w64}
 use Rattle.std.proofs.Math.Facts.{Fits-of_lt}
-use Rattle.std.proofs.lemmas.Bool.{ltb-false, or_parts}
-use Rattle.ds_machine.specs.Acting.{is_due_before}
 use Rattle.ds_machine.specs.declared.answers.Done as answer
 use Rattle.ds_machine.specs.declared.answers.Done.TheVariants as answers
-use Rattle.ds_machine.proofs.ActingDues.{acts_then, loud_same}
-use Rattle.ds_machine.proofs.ActingSteps.{Acted, ActedKeeps}
-use Rattle.ds_machine.proofs.CatchingUp.{caught_more}
-use Rattle.ds_machine.proofs.Running.{running_acted, running_taken}
 use Rattle.run_ahead.specs.declared.turns.Turned.TheVariants as turned
 use Rattle.run_ahead.proofs.Stretches.{stop_few, stop_takes_none_back, stretch_took}
 

@@ -1,12 +1,11 @@
-use Rattle.run_ahead.proofs.Words.{ℕ, ◌≡◌, ◌<◌, ◌≤◌, ◌*◌, ◌⊎◌, inl, inr, Option, Some, None, true, true≢false, refl, sym, ◌∙◌, ap, subst, arith, []}
-use Rattle.run_ahead.proofs.Words.{LeftOut, Proc, Tick, IsLeast, Makes, Runs, places_remaining, acting_dues, IsRunning, last_frame, last_lists}
-use Rattle.run_ahead.proofs.Words.{CatchesUpFor, rank_of, reference, reference_step, IsSound, MachineState, counts_of, processor_of, tick_of}
-use Rattle.run_ahead.proofs.Words.{BelongsToTurn, TakesSteps, no_steps, more_steps, IsLeastBelow, MayAct, own_remaining, acting_processor}
-use Rattle.run_ahead.proofs.Words.{acted_fewer, ActedLeaves, ActedStops, acted_keeps, acted_stops, acting_stops, own_tick, turn_steps_fall}
-use Rattle.run_ahead.proofs.Words.{few_where_stops, running_along, takes_along, TookStretch, GoesOn, StretchStops, TakesStretch}
-use Rattle.std.specs.Option.{is_some}
+use Rattle.run_ahead.proofs.Words.{ActedLeaves, ActedStops, BelongsToTurn, CatchesUpFor, GoesOn, IsLeast, IsLeastBelow, IsRunning, IsSound, LeftOut}
+use Rattle.run_ahead.proofs.Words.{MachineState, Makes, MayAct, None, Option, Proc, Runs, Some, StretchStops, TakesSteps, TakesStretch, Tick}
+use Rattle.run_ahead.proofs.Words.{TookStretch, [], acted_keeps, acted_stops, acting_dues, acting_processor, acting_stops, ap, arith, counts_of}
+use Rattle.run_ahead.proofs.Words.{few_where_stops, inl, inr, is_some, last_frame, last_lists, more_steps, no_steps, own_remaining, own_tick}
+use Rattle.run_ahead.proofs.Words.{places_remaining, processor_of, rank_of, reference, reference_step, refl, running_along, subst, sym, takes_along}
+use Rattle.run_ahead.proofs.Words.{tick_of, true, true≢false, turn_steps_fall, ℕ, ◌*◌, ◌<◌, ◌∙◌, ◌≡◌, ◌≤◌, ◌⊎◌}
+use Rattle.ds_machine.proofs.ActingPlaces.{acted_fewer, acted_no_more}
 use Rattle.ds_runs.specs.Runs as runs
-use Rattle.ds_machine.proofs.ActingPlaces.{acted_no_more}
 use Rattle.ds_machine.proofs.TurnSteps.{belongs_acted, belongs_acts, belongs_below, belongs_stops, takes_run}
 
 -- A stretch: steps of a processor that belong to its turn, one after another; before one that observes geometry, geometry catches up.

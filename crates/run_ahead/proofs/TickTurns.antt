@@ -1,8 +1,7 @@
-use Rattle.run_ahead.proofs.Words.{ℕ, ◌≡◌, ◌<◌, ◌+◌, ◌-◌, ◌⊎◌, inl, inr, [], refl, sym, ◌∙◌, ap, subst, arith, LeftOut, Proc, Tick, IsLeast, Makes}
-use Rattle.run_ahead.proofs.Words.{Stops, acting_dues, CatchesUpFor, rank_of, reference_step, IsSound, MachineState, processor_of, BelongsToTurn}
-use Rattle.run_ahead.proofs.Words.{TakesSteps, no_steps, more_steps, own_remaining, ticks_left, acting_processor, due_where_acts, own_tick}
-use Rattle.run_ahead.proofs.Words.{turn_steps_fall, MeetsStop, StopsActing, StretchStops, TakesActing, TakesStretch}
-use Rattle.run_ahead.specs.TickTurns.{IsTickBefore, TurnsOfOneTick}
+use Rattle.run_ahead.proofs.Words.{BelongsToTurn, CatchesUpFor, IsLeast, IsSound, IsTickBefore, LeftOut, MachineState, Makes, MeetsStop, Proc, Stops}
+use Rattle.run_ahead.proofs.Words.{StopsActing, StretchStops, TakesActing, TakesSteps, TakesStretch, Tick, TurnsOfOneTick, [], acting_dues}
+use Rattle.run_ahead.proofs.Words.{acting_processor, ap, arith, due_where_acts, inl, inr, more_steps, no_steps, own_remaining, own_tick, processor_of}
+use Rattle.run_ahead.proofs.Words.{rank_of, reference_step, refl, subst, sym, ticks_left, turn_steps_fall, ℕ, ◌+◌, ◌-◌, ◌<◌, ◌∙◌, ◌≡◌, ◌⊎◌}
 use Rattle.run_ahead.specs.declared.turns.Turned.TheVariants as answers
 
 -- Turns of one tick.

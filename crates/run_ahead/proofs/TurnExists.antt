@@ -1,18 +1,15 @@
-use Rattle.run_ahead.proofs.Words.{ℕ, zero, suc, ◌≡◌, ◌<◌, ◌≤◌, ◌+◌, ◌⊎◌, inl, inr, Bool, true, false, true≢false, List, [], ◌∷◌, Option, Some, None}
-use Rattle.run_ahead.proofs.Words.{refl, sym, ◌∙◌, ap, subst, arith, IsSome, low_or_high, true_or_false, LeftOut, Proc, Nine, Seven, Due, actor_of}
-use Rattle.run_ahead.proofs.Words.{IsLeast, MachineStep, Makes, Stops, acting_dues, is_behind, CatchesUp, CatchesUpFor, CatchesUpIf, TakesGeometry}
-use Rattle.run_ahead.proofs.Words.{observes_by, rank_of, IsSound, Shown, next_shown, reference_step, Steps, MachineState, processor_of, BelongsToTurn}
-use Rattle.run_ahead.proofs.Words.{TakesSteps, no_steps, more_steps, IsLeastBelow, own_remaining, ticks_left, acting_low, behind_is, caught_so}
-use Rattle.run_ahead.proofs.Words.{turn_steps_fall, ConsoleState, TookStretch, TookTurn, at_end, counts, meets_stop, Turns, counted_of, one_more_turn}
-use Rattle.run_ahead.proofs.Words.{run_to, turns_remaining}
+use Rattle.run_ahead.proofs.Words.{BelongsToTurn, Bool, CatchesUp, CatchesUpFor, CatchesUpIf, ConsoleState, Due, IsLeast, IsLeastBelow, IsSome}
+use Rattle.run_ahead.proofs.Words.{IsSound, LeftOut, List, MachineState, MachineStep, Makes, Nine, None, Option, Proc, Seven, Shown, Some, Steps}
+use Rattle.run_ahead.proofs.Words.{Stops, TakesGeometry, TakesSteps, TookStretch, TookTurn, Turns, [], acting_dues, acting_low, actor_of, ap, arith}
+use Rattle.run_ahead.proofs.Words.{at_end, behind_is, caught_for, caught_so, caught_steps, caught_up, counted_of, counts, false, fewer_left, inl, inr}
+use Rattle.run_ahead.proofs.Words.{is_behind, low_or_high, meets_stop, more_steps, next_shown, no_steps, observes_by, one_more_turn, own_remaining}
+use Rattle.run_ahead.proofs.Words.{processor_of, rank_of, reference_step, refl, run_to, still_due, subst, suc, sym, ticks_left, true, true_or_false}
+use Rattle.run_ahead.proofs.Words.{true≢false, turn_silent, turn_steps_fall, turns_remaining, zero, ℕ, ◌+◌, ◌<◌, ◌∙◌, ◌∷◌, ◌≡◌, ◌≤◌, ◌⊎◌}
 use Rattle.ds_machine.specs.Lagging as lagging
 use Rattle.ds_machine.specs.declared.answers.Done as answer
 use Rattle.ds_machine.specs.declared.answers.Done.TheVariants as answers
-use Rattle.ds_machine.proofs.ActingSteps.{caught_steps, caught_up}
-use Rattle.ds_machine.proofs.CatchingUp.{caught_for, fewer_left}
 use Rattle.ds_machine.proofs.LagCommutes.{late_put}
 use Rattle.ds_machine.proofs.LagSteps.{quiet_step}
-use Rattle.ds_machine.proofs.OwnRemaining.{still_due, turn_silent}
 use Rattle.ds_machine.proofs.StepsMay.{answer_of}
 use Rattle.gx_fifo.specs.GxStates.{gx_finished}
 use Rattle.run_ahead.specs.ToEndLaws.{HasTurnsToEnd, TurnsEnd}

@@ -1,15 +1,15 @@
-use Rattle.run_ahead.proofs.Words.{ℕ, ◌≡◌, ◌<◌, ◌≤◌, ◌+◌, inl, inr, Bool, true, false, List, [], ◌∷◌, Option, Some, None, refl, ap, arith, LeftOut}
-use Rattle.run_ahead.proofs.Words.{Tick, places_remaining, is_behind, last_frame, last_lists, MachineState, Shown, next_shown, reference, IsSound}
-use Rattle.run_ahead.proofs.Words.{acted_fewer, acting_stops, caught_so, takes_along, ConsoleState, TakesActing, TakesQuiet, MeetsStop, Turns}
-use Rattle.run_ahead.proofs.Words.{counted_of, turns_in, HasTurned, no_turn, one_turn, GoesOn, turns_remaining, shown_in}
+use Rattle.run_ahead.proofs.Words.{Bool, ConsoleState, FollowFrames, FollowLists, GoesOn, HasTurned, IsSound, LeftOut, List, MachineState, MeetsStop}
+use Rattle.run_ahead.proofs.Words.{None, Option, RunsOn, Shown, Some, TakesActing, TakesQuiet, Tick, Turns, [], acting_stops, ap, arith, caught_so}
+use Rattle.run_ahead.proofs.Words.{counted_of, false, inl, inr, is_behind, last_frame, last_lists, next_shown, no_turn, one_turn, places_remaining}
+use Rattle.run_ahead.proofs.Words.{reference, refl, shown_in, takes_along, true, turns_in, turns_remaining, ℕ, ◌+◌, ◌<◌, ◌∷◌, ◌≡◌, ◌≤◌}
+use Rattle.ds_machine.proofs.ActingPlaces.{acted_fewer}
 use Rattle.ds_runs.specs.Runs.{over}
 use Rattle.ds_runs.proofs.RunExists.{run_exists}
-use Rattle.ds_machine.specs.FrameLaws.{FollowFrames, FollowLists}
 use Rattle.ds_machine.specs.Sound.{HasSoundParts}
 use Rattle.ds_machine.proofs.ActingSteps.{acting_runs}
 use Rattle.ds_machine.proofs.CatchingUp.{catching_up_runs}
 use Rattle.ds_machine.proofs.MachineSchedule.{reference_schedules}
-use Rattle.run_ahead.specs.TurnLaws.{RunsOn, HasRuns, one_if, TurnsAddUp}
+use Rattle.run_ahead.specs.TurnLaws.{HasRuns, one_if, TurnsAddUp}
 use Rattle.run_ahead.specs.declared.turns.Turned as turned
 use Rattle.run_ahead.specs.declared.turns.Turned.TheVariants as answers
 use Rattle.run_ahead.proofs.StepTurns.{before_all, event_acted, event_keeps, event_leaves}

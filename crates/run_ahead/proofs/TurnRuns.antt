@@ -1,10 +1,8 @@
-use Rattle.run_ahead.proofs.Words.{ℕ, ◌≡◌, ◌≤◌, List, [], ◌++◌, Option, Some, None, max, refl, sym, ◌∙◌, ap, subst, arith, IsSome, none-some}
-use Rattle.run_ahead.proofs.Words.{same_Some, LeftOut, Ending, At, Runs, MachineState, IsSound, Shown, reference, ConsoleState, TurnsToEnd, at_end}
-use Rattle.run_ahead.proofs.Words.{counts, meets_stop, GoesOn, shown_in, HasTurned, Turns, counted_of}
-use Rattle.std.proofs.Common.{append_assoc, append-nil}
+use Rattle.run_ahead.proofs.Words.{At, ConsoleState, EachRan, Ending, GoesOn, HasTurned, IsSome, IsSound, LeftOut, List, MachineState, None, Option}
+use Rattle.run_ahead.proofs.Words.{Runs, Shown, Some, Turns, TurnsToEnd, [], ap, append-nil, append_assoc, arith, at_end, counted_of, counts, max}
+use Rattle.run_ahead.proofs.Words.{meets_stop, none-some, reference, refl, same_Some, shown_in, subst, sym, ℕ, ◌++◌, ◌∙◌, ◌≡◌, ◌≤◌}
 use Rattle.ds_runs.specs.Runs as runs
 use Rattle.run_ahead.specs.ToEndLaws.{TurnsEndAsRuns, TurnsKeepRuns, TurnsOn, TurnsStopAsRuns, no_turn_on, one_turn_on}
-use Rattle.run_ahead.specs.TurnLaws.{EachRan}
 use Rattle.run_ahead.specs.Turns as one_limit
 use Rattle.run_ahead.specs.declared.turns.Turned as turned
 use Rattle.run_ahead.specs.declared.turns.Turned.TheVariants as answers

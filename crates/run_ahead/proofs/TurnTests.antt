@@ -1,11 +1,8 @@
-use Rattle.run_ahead.proofs.Words.{ℕ, ◌≡◌, ◌<◌, ◌⊎◌, inl, inr, Bool, true, false, true≢false, List, [], ◌∷◌, Option, Some, None, refl, sym, ◌∙◌, ap}
-use Rattle.run_ahead.proofs.Words.{arith, none-some, same_Some, low_or_high, true_or_false, Proc, Nine, Seven, Due, Tick, IsLeast, acting_dues}
-use Rattle.run_ahead.proofs.Words.{rank_of, MachineState, tick_of, BelongsToTurn}
-use Rattle.std.specs.List.{list_all}
-use Rattle.std.specs.Prelude.{nat_le, if◌then◌else◌}
+use Rattle.run_ahead.proofs.Words.{BelongsToTurn, Bool, Due, IsLeast, List, MachineState, Nine, None, Option, Proc, Seven, Some, Tick, []}
+use Rattle.run_ahead.proofs.Words.{acting_dues, ap, arith, false, if◌then◌else◌, inl, inr, is_blocked, list_all, low_or_high, nat_le, none-some}
+use Rattle.run_ahead.proofs.Words.{rank_of, refl, same_Some, same_or_not, sym, tick_of, true, true_or_false, true≢false, ℕ, ◌<◌, ◌∙◌, ◌∷◌, ◌≡◌, ◌⊎◌}
 use Rattle.std.proofs.lemmas.List.Elements.{All-contains}
 use Rattle.std.proofs.lemmas.List.Sums.{AllPass-from_list_all}
-use Rattle.ds_base.proofs.Choices.{same_or_not}
 use Rattle.ds_base.specs.Accesses.{Access, Fetch, MemoryMachine, Read, Write}
 use Rattle.ds_card.specs.Cards.{card_due_for}
 use Rattle.arm_core.specs.Footprints.{access_bytes}
@@ -23,7 +20,7 @@ use Rattle.ds_machine.specs.PrivateLaws.{IsFence}
 use Rattle.ds_machine.specs.Sides.{data_accesses, next_fetch}
 use Rattle.ds_machine.specs.Reference.{keys_due, processor_due}
 use Rattle.ds_machine.specs.PrivateSides.{SideOf, nine_side, seven_side}
-use Rattle.ds_machine.specs.Steps.{is_blocked, line_of, nine_reach, seven_reach}
+use Rattle.ds_machine.specs.Steps.{line_of, nine_reach, seven_reach}
 use Rattle.ds_machine.proofs.ActingDues.{somebody_acts}
 use Rattle.ds_machine.proofs.FenceFirsts.{ahead_where, below_is, below_then, below_where, fence_is, least_where, nine_by_parts, rank_where, seven_by_parts}
 use Rattle.ds_machine.proofs.PrivateTests.{Passes, all_of}

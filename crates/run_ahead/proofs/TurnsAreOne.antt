@@ -1,9 +1,9 @@
-use Rattle.run_ahead.proofs.Words.{ℕ, ◌≡◌, ◌<◌, ◌≤◌, ◌⊎◌, inl, inr, Bool, true, false, true≢false, List, [], ◌∷◌, Option, Some, None, refl, sym, ◌∙◌}
-use Rattle.run_ahead.proofs.Words.{ap, subst, arith, IsSome, none-some, same_Some, LeftOut, Proc, Nine, Seven, Tick, actor_of, Ending, At, IsLeast}
-use Rattle.run_ahead.proofs.Words.{IsOver, MachineStep, Makes, Stops, acting_dues, is_behind, CatchesUp, CatchesUpFor, CatchesUpIf, TakesGeometry}
-use Rattle.run_ahead.proofs.Words.{observes_by, rank_of, Shown, dues_of, next_shown, reference_step, MachineState, processor_of, BelongsToTurn}
-use Rattle.run_ahead.proofs.Words.{TakesSteps, due_where_acts, behind_is, due_of_rank, ConsoleState, TurnsToEnd, at_end, counts, meets_stop}
-use Rattle.run_ahead.proofs.Words.{MeetsStop, TakesEvent, TakesQuiet, TakesStretch, Turns, counted_of, one_more_turn, run_to}
+use Rattle.run_ahead.proofs.Words.{At, BelongsToTurn, Bool, CatchesUp, CatchesUpFor, CatchesUpIf, ConsoleState, Ending, IsLeast, IsOver, IsSome}
+use Rattle.run_ahead.proofs.Words.{LeftOut, List, MachineState, MachineStep, Makes, MeetsStop, Nine, None, Option, Proc, Seven, Shown, Some, Stops}
+use Rattle.run_ahead.proofs.Words.{TakesEvent, TakesGeometry, TakesQuiet, TakesSteps, TakesStretch, Tick, Turns, TurnsToEnd, [], acting_dues}
+use Rattle.run_ahead.proofs.Words.{actor_of, ap, arith, at_end, behind_is, counted_of, counts, due_of_rank, due_where_acts, dues_of, false, inl, inr}
+use Rattle.run_ahead.proofs.Words.{is_behind, meets_stop, next_shown, none-some, observes_by, one_more_turn, processor_of, rank_of, reference_step}
+use Rattle.run_ahead.proofs.Words.{refl, run_to, same_Some, subst, sym, true, true≢false, ℕ, ◌<◌, ◌∙◌, ◌∷◌, ◌≡◌, ◌≤◌, ◌⊎◌}
 use Rattle.ds_runs.specs.Runs as runs
 use Rattle.ds_runs.proofs.Lists.{least_unique}
 use Rattle.ds_runs.proofs.RunLaws.{not_both, same_makes}

@@ -1,16 +1,12 @@
-use Rattle.video2d.proofs.Words.{ℕ, zero, suc, ◌≡◌, ◌<◌, ◌≤◌, ◌+◌, ◌-◌, ◌*◌, ◌/◌, ◌%◌, ◌^◌, ◌==◌, min, Bool, List, [], ◌∷◌, ◌++◌, length, drop, map}
-use Rattle.video2d.proofs.Words.{arith, length-append, AllByRecursion, range_with_len, either, blended, held, red, green, blue, top_bit, Banks}
-use Rattle.video2d.proofs.Words.{blends, brightness_changed, colour_of, effects_where, effect, eva, evb, front_colour, is_first_target, top_alone}
-use Rattle.video2d.proofs.Words.{with_effects, EngineState, IsColour, IsFrame, LayerPixels, SeenLayer, composed_pixel, engine_line, engine_pixel}
-use Rattle.video2d.proofs.Words.{whole_line, Engine}
-use Rattle.std.proofs.Common.{take}
+use Rattle.video2d.proofs.Words.{AllByRecursion, Banks, Bool, Engine, EngineState, IsColour, IsFrame, LayerPixels, List, SeenLayer, [], arith}
+use Rattle.video2d.proofs.Words.{blended, blends, blue, brightness_changed, colour_of, composed_pixel, drop, effect, effects_where, either}
+use Rattle.video2d.proofs.Words.{engine_line, engine_pixel, eva, evb, evy, front_colour, green, held, is_first_target, length, length-append}
+use Rattle.video2d.proofs.Words.{length-drop, length-map-range_with_len, length-take-le, line_laid, map, min, range_with_len, red, suc, take}
+use Rattle.video2d.proofs.Words.{top_alone, top_bit, whole_line, with_effects, zero, ℕ, ◌%◌, ◌*◌, ◌++◌, ◌+◌, ◌-◌, ◌/◌, ◌<◌, ◌==◌, ◌^◌, ◌∷◌, ◌≡◌, ◌≤◌}
 use Rattle.std.proofs.Math.Nat.{mul-le-mul_left}
-use Rattle.std.proofs.lemmas.List.{length-drop, length-take-le}
-use Rattle.std.proofs.lemmas.List.FromFn.{length-map-range_with_len}
 use Rattle.line_lanes.specs.Pixels.{brightened, by_channels, darkened, mastered}
-use Rattle.video2d.specs.Effects.{evy}
 use Rattle.video2d.specs.Engines.{master_bright}
-use Rattle.video2d.specs.Pictures.{is_engine_enabled, line_laid, screen_kind_pixel, screen_shown}
+use Rattle.video2d.specs.Pictures.{is_engine_enabled, screen_kind_pixel, screen_shown}
 use Rattle.video2d.specs.declared.lines.Screen.{Screen}
 use Rattle.video2d.specs.declared.lines.Screen.TheVariants.{White, Layers, Bank, MainMemory}
 

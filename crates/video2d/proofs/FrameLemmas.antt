@@ -1,14 +1,7 @@
-use Rattle.video2d.proofs.Words.{ℕ, Bool, true, false, ◌≡◌, ◌≢◌, ◌<◌, ◌≤◌, ◌+◌, ◌-◌, ◌/◌, ◌%◌, List, ◌++◌, refl, sym, ◌∙◌, ap, arith, drop, get_or, length, slice_set}
-use Rattle.video2d.proofs.Words.{get_or-set_other, get_or-set_same, length-append}
-use Rattle.std.proofs.Common.{take}
-use Rattle.std.proofs.lemmas.Bool.{cases_lt}
-use Rattle.std.proofs.lemmas.List.{at_drop_all, at_drop_more, length-drop, length-take-le, places}
-use Rattle.std.proofs.lemmas.List.FromFn.{fill_by_all, get_or-map-range_with_len, length-map-range_with_len}
-use Rattle.std.proofs.Common.{rules, inl, inr}
-use Rattle.video2d.proofs.Words.{bytes_written, pixel_format}
-use Rattle.ds_state.specs.Formats.{written_each}
-use Rattle.video2d.specs.Pictures.{line_laid}
-use Rattle.video2d.specs.rows.Frames.{frame_of, frame_pixel}
+use Rattle.video2d.proofs.Words.{Bool, List, ap, arith, at_drop_all, at_drop_more, bytes_written, cases_lt, drop, false, fill_by_all, frame_of}
+use Rattle.video2d.proofs.Words.{frame_pixel, get_or, get_or-map-range_with_len, get_or-set_other, get_or-set_same, inl, inr, length, length-append}
+use Rattle.video2d.proofs.Words.{length-drop, length-map-range_with_len, length-take-le, line_laid, pixel_format, places, refl, rules, slice_set, sym}
+use Rattle.video2d.proofs.Words.{take, true, written_each, ℕ, ◌%◌, ◌++◌, ◌+◌, ◌-◌, ◌/◌, ◌<◌, ◌∙◌, ◌≡◌, ◌≢◌, ◌≤◌}
 
 -- The frame being drawn, as it is kept.
 

@@ -1,5 +1,4 @@
-use Rattle.std.proofs.Common.{◌≡◌, true, false, Some, arith}
-use Rattle.video2d.specs.Scans.{ScanState, framed_by, scan_after, scan_due_tick, starts_vblank}
+use Rattle.video2d.proofs.Words.{ScanState, Some, arith, false, framed_by, scan_after, scan_due_tick, starts_vblank, true, ◌≡◌}
 
 -- The last whole frame's tick goes on by the event that makes one whole, and by no other.
 

@@ -1,10 +1,9 @@
-use Rattle.video2d.proofs.Words.{ℕ, zero, suc, Bool, true, false, ◌≡◌, ◌≢◌, ◌<◌, ◌≤◌, ◌+◌, ◌*◌, ◌/◌, ◌%◌, ◌^◌, ◌==◌, ◌&&◌, ◌||◌, inl, inr, List, []}
-use Rattle.video2d.proofs.Words.{◌∷◌, ◌++◌, min, nat_le, if◌then◌else◌, refl, sym, ◌∙◌, ap, subst, arith, cases_eq, bit, bits, flag, blended, held}
-use Rattle.video2d.proofs.Words.{red, green, blue, top_bit, blends, brightness_changed, colour_of, effect, effects_where, eva, evb, is_first_target}
-use Rattle.video2d.proofs.Words.{is_second_target, top_alone, with_effects, EngineState, bgcnt, LayerPixels, SeenLayer, at_priority, backdrop_of}
-use Rattle.video2d.proofs.Words.{from_priority, front_to_back, layers_of, composed_pixel, shown_by_windows, FrontPixel, finished_where, front_kind}
-use Rattle.video2d.proofs.Words.{front_over, put_all, put_at, put_layer, put_turn, started}
-use Rattle.video2d.specs.declared.fronts.Laid.{Laid}
+use Rattle.video2d.proofs.Words.{Bool, EngineState, FrontPixel, Laid, LayerPixels, List, SeenLayer, [], ap, arith, at_priority, backdrop_of, bgcnt}
+use Rattle.video2d.proofs.Words.{bit, bits, blended, blends, blue, brightness_changed, cases_eq, colour_of, composed_pixel, effect, effects_where}
+use Rattle.video2d.proofs.Words.{eva, evb, false, finished_where, flag, from_priority, front_kind, front_over, front_to_back, green, held}
+use Rattle.video2d.proofs.Words.{if◌then◌else◌, inl, inr, is_first_target, is_second_target, layers_of, min, nat_le, put_all, put_at, put_layer}
+use Rattle.video2d.proofs.Words.{put_turn, red, refl, shown_by_windows, started, subst, suc, sym, top_alone, top_bit, true, with_effects, zero, ℕ}
+use Rattle.video2d.proofs.Words.{◌%◌, ◌&&◌, ◌*◌, ◌++◌, ◌+◌, ◌/◌, ◌<◌, ◌==◌, ◌^◌, ◌||◌, ◌∙◌, ◌∷◌, ◌≡◌, ◌≢◌, ◌≤◌}
 use Rattle.video2d.specs.rows.Fronts.{effect_mark, finished, laid_as, laid_of, mark_blended, no_front, shown_layers}
 
 -- Layers that are laid over one another from back to front leave the first two of the list from front to back, and what acts on them.

@@ -1,9 +1,8 @@
-use Rattle.video2d.proofs.Words.{ℕ, zero, suc, Bool, true, false, ◌≡◌, ◌<◌, ◌==◌, if◌then◌else◌, List, refl, sym, ◌∙◌, ap, arith, bit, bits}
-use Rattle.video2d.proofs.Words.{object_pixel, ObjectPixel, object_small, Banks, palette_colour, EngineState, LayerPixels, SeenLayer, display_of}
-use Rattle.video2d.proofs.Words.{layered_pixel, pixels_at, shown_by_windows, Engine, FrontPixel, finished_where, put_all, put_at, put_layer}
-use Rattle.video2d.proofs.Words.{layers_through}
-use Rattle.std.proofs.Common.{true≢false}
-use Rattle.ds_base.proofs.Choices.{if_false, if_true}
+use Rattle.video2d.proofs.Words.{Banks, Bool, Engine, EngineState, FrontPixel, LayerPixels, List, ObjectPixel, SeenLayer, ap, arith, bit, bits}
+use Rattle.video2d.proofs.Words.{display_of, false, finished_where, if_false, if_true, if◌then◌else◌, layered_pixel, layers_through, object_pixel}
+use Rattle.video2d.proofs.Words.{palette_colour, pixels_at, put_all, put_at, put_layer, refl, shown_by_windows, suc, sym, true, true≢false, zero, ℕ}
+use Rattle.video2d.proofs.Words.{◌<◌, ◌==◌, ◌∙◌, ◌≡◌}
+use Rattle.obj2d.proofs.OffLemmas.{object_small}
 use Rattle.video2d.proofs.FrontLemmas.{composes}
 
 -- Rows that are laid put layers at each place.

@@ -1,15 +1,12 @@
-use Rattle.video2d.proofs.Words.{ℕ, zero, suc, Bool, true, false, ◌≡◌, ◌≢◌, ◌<◌, ◌+◌, ◌%◌, ◌^◌, ◌==◌, ◌&&◌, ◌||◌, inl, inr, List, [], ◌∷◌, ◌++◌}
-use Rattle.video2d.proofs.Words.{if◌then◌else◌, refl, sym, ◌∙◌, ap, subst, arith, cases_eq, bit, bits, blended, object_pixel, ObjectPixel}
-use Rattle.video2d.proofs.Words.{object_small, palette_colour, Banks, background_pixel, blends, brightness_changed, colour_of, effect, effects_where}
-use Rattle.video2d.proofs.Words.{eva, evb, front_colour, is_first_target, is_second_target, top_alone, with_effects, EngineState, bgcnt, dispcnt}
-use Rattle.video2d.proofs.Words.{Engine, LayerPixels, SeenLayer, at_priority, backdrop_of, from_priority, front_to_back, layers_of, seen_objects}
-use Rattle.video2d.proofs.Words.{composed_pixel, display_of, layered_pixel, pixels_at, shown_by_windows, background_seen, calm_over, laid_over}
-use Rattle.video2d.proofs.Words.{over_at}
-use Rattle.obj2d.specs.ObjectLayer.{blank_pixel}
-use Rattle.obj2d.proofs.OffLemmas.{no_object}
-use Rattle.video2d.specs.Engines.{bldcnt}
+use Rattle.video2d.proofs.Words.{Banks, Bool, Engine, EngineState, LayerPixels, List, ObjectPixel, SeenLayer, [], ap, arith, at_priority, backdrop_of}
+use Rattle.video2d.proofs.Words.{background_pixel, background_seen, bgcnt, bit, bits, blank_pixel, bldcnt, blended, blends, brightness_changed}
+use Rattle.video2d.proofs.Words.{cases_eq, colour_of, composed_pixel, dispcnt, display_of, effect, effects_where, eva, evb, false, from_priority}
+use Rattle.video2d.proofs.Words.{front_colour, front_to_back, if◌then◌else◌, inl, inr, is_first_target, is_second_target, laid_over, layered_pixel}
+use Rattle.video2d.proofs.Words.{layers_of, object_pixel, over_at, palette_colour, pixels_at, refl, seen_objects, shown_by_windows, subst, suc, sym}
+use Rattle.video2d.proofs.Words.{top_alone, true, with_effects, zero, ℕ, ◌%◌, ◌&&◌, ◌++◌, ◌+◌, ◌<◌, ◌==◌, ◌^◌, ◌||◌, ◌∙◌, ◌∷◌, ◌≡◌, ◌≢◌}
+use Rattle.obj2d.proofs.OffLemmas.{object_small, no_object}
+use Rattle.video2d.specs.rows.Plain.{calm_over, backgrounds_seen, calm_pixel, has_no_backgrounds, is_calm, is_plain_engine, laid_at, plain_pixel}
 use Rattle.video2d.specs.Layers.{seen_background}
-use Rattle.video2d.specs.rows.Plain.{backgrounds_seen, calm_pixel, has_no_backgrounds, is_calm, is_plain_engine, laid_at, plain_pixel}
 use Rattle.video2d.proofs.FrontLemmas.{hidden, other, still_hidden, taken}
 
 -- Where no window, no object and no effect can act, what is seen is the layer in front.

@@ -1,10 +1,8 @@
-use Rattle.video2d.proofs.Words.{ℕ, zero, suc, ◌≡◌, ◌≢◌, ◌⊎◌, inl, inr, ◌<◌, ◌≤◌, ◌+◌, ◌-◌, ◌*◌, ◌/◌, ◌%◌, ◌^◌, ◌==◌, nat_lt, true, false, List}
-use Rattle.video2d.proofs.Words.{replicate, Option, Some, None, bit_and, slice_index, slice_set, refl, sym, ◌∙◌, ap, subst, arith, Format, and_block}
-use Rattle.video2d.proofs.Words.{cases_eq, get_or-replicate, get_or-set_other, get_or-set_same, length-replicate, length-set, equal, number_at}
-use Rattle.video2d.proofs.Words.{width_bytes, with_number, zeroes, Width, Byte, Half, Word, Keeps, made, engine_bytes, engine_row_at, kept_bits_at}
-use Rattle.video2d.proofs.Words.{ports_format, row_width, DisplayRow, Engine}
-use Rattle.std.specs.Int.Bits.{and_le_l}
-use Rattle.ds_base.proofs.Choices.{true_or_false}
+use Rattle.video2d.proofs.Words.{Byte, DisplayRow, Engine, Format, Half, Keeps, List, None, Option, Some, Width, Word, and_block, and_le_l, ap, arith}
+use Rattle.video2d.proofs.Words.{bit_and, cases_eq, engine_bytes, engine_row_at, equal, false, get_or-replicate, get_or-set_other, get_or-set_same}
+use Rattle.video2d.proofs.Words.{inl, inr, kept_bits_at, length-replicate, length-set, made, nat_lt, number_at, ports_format, refl, replicate}
+use Rattle.video2d.proofs.Words.{row_width, slice_index, slice_set, subst, suc, sym, true, true_or_false, width_bytes, with_number, zero, zeroes, ℕ}
+use Rattle.video2d.proofs.Words.{◌%◌, ◌*◌, ◌+◌, ◌-◌, ◌/◌, ◌<◌, ◌==◌, ◌^◌, ◌∙◌, ◌≡◌, ◌≢◌, ◌≤◌, ◌⊎◌}
 use Rattle.video2d.proofs.SavedPorts.{ArePorts, HalfPut, WordPut, agrees_mask, agrees_within, all_agree, half_put, kept_small, mask_at, step_agrees, step_by, step_on, step_past, steps, word_put}
 use Rattle.video2d.proofs.SavedWalks.{register_if, registers_from, walked}
 

@@ -1,18 +1,16 @@
-use Rattle.video2d.proofs.Words.{ℕ, zero, suc, ◌≡◌, ◌<◌, ◌≤◌, ◌+◌, ◌-◌, ◌*◌, ◌/◌, ◌%◌, ◌^◌, ◌==◌, Bool, true, false, List, [], ◌∷◌, length}
-use Rattle.video2d.proofs.Words.{slice_index, Ok, bit_and, refl, sym, ◌∙◌, ap, subst, arith, and_le_r, AllByRecursion, equal, is_equal, bit, flag}
-use Rattle.video2d.proofs.Words.{kept_twice, IsExact, Keeps, StandsFor, made, Left, read_format, display_row, EngineState, PointState, IsColour}
-use Rattle.video2d.proofs.Words.{IsDispstat, IsEngine, IsFrame, IsPoint, pixel_format, ScanState, scan_before, StatusState, VideoState, Dispstat}
-use Rattle.video2d.proofs.Words.{Engine, A, B}
-use Rattle.std.proofs.Common.{rules}
+use Rattle.video2d.proofs.Words.{A, AllByRecursion, B, Bool, Dispstat, Engine, EngineState, IsColour, IsDispstat, IsEngine, IsExact, IsFrame, IsPoint}
+use Rattle.video2d.proofs.Words.{IsSavedVideo, Keeps, Left, List, Ok, PointState, ScanState, StandsFor, VideoIsSaved, [], and_le_r, and_mask, ap}
+use Rattle.video2d.proofs.Words.{arith, bit, bit_and, display_row, equal, false, flag, frame_format, frame_pixels, is_equal, kept_twice, length, made}
+use Rattle.video2d.proofs.Words.{pixel_format, point_format, read_format, refl, rules, scan_before, slice_index, status_bits, status_of_bits, subst}
+use Rattle.video2d.proofs.Words.{suc, sym, true, video_format, zero, ℕ, ◌%◌, ◌*◌, ◌+◌, ◌-◌, ◌/◌, ◌<◌, ◌==◌, ◌^◌, ◌∙◌, ◌∷◌, ◌≡◌, ◌≤◌}
+use Rattle.video2d.specs.Statuses.{StatusState, status_word}
+use Rattle.video2d.specs.Videos.{VideoState}
 use Rattle.std.specs.Cmp.{booleans_Decides}
-use Rattle.std.specs.Int.Bits.{and_mask}
 use Rattle.ds_state.proofs.Exact.{one_spelling, reads_exactly, round_trips}
 use Rattle.ds_state.proofs.Masks.{kept_top}
 use Rattle.video2d.proofs.SavedKept.{ports_kept}
 use Rattle.video2d.proofs.SavedPorts.{ArePorts, ports_exact, ports_stand}
 use Rattle.video2d.proofs.SavedScans.{line_small, scans_follow}
-use Rattle.video2d.specs.Saved.{IsSavedVideo, VideoIsSaved, frame_format, frame_pixels, point_format, status_bits, status_of_bits, video_format}
-use Rattle.video2d.specs.Statuses.{status_word}
 
 -- What the display owes of its format.
 

@@ -1,11 +1,9 @@
-use Rattle.video2d.proofs.Words.{ℕ, zero, suc, ◌≡◌, ◌<◌, ◌+◌, ◌-◌, ◌==◌, List, ◌++◌, Option, Some, None, Ok, refl, sym, ◌∙◌, subst, arith, either_by}
-use Rattle.video2d.proofs.Words.{number_at, width_bytes, with_number, Width, Half, Word, bytes_written, keeps_mask, number_code, Left, read_format}
-use Rattle.video2d.proofs.Words.{engine_row_at, row_width, DisplayRow, Engine}
+use Rattle.video2d.proofs.Words.{DisplayRow, Engine, Fails, Half, Left, List, None, Ok, Option, ReadAnswer, Some, Width, Word, arith, bytes_written}
+use Rattle.video2d.proofs.Words.{code_bytes, either_by, engine_row_at, keeps_mask, number_at, number_code, read_code, read_format, refl, row_width}
+use Rattle.video2d.proofs.Words.{ruled, subst, suc, sym, width_bytes, with_number, zero, ℕ, ◌++◌, ◌+◌, ◌-◌, ◌<◌, ◌==◌, ◌>>=◌, ◌∙◌, ◌≡◌}
 use Rattle.std.proofs.Common.{Err}
-use Rattle.ds_state.specs.Formats.{code_bytes}
 use Rattle.ds_state.specs.declared.unpacker.Unpacked.{Unpacked}
 use Rattle.ds_state.specs.declared.unpacker.Unpacked.TheVariants.{NoMemory, Bad}
-use Rattle.ds_state.specs.Reading.{Fails, ReadAnswer, ◌>>=◌, read_code, ruled}
 use Rattle.video2d.specs.DisplayRegisters.{HasByteAt}
 use Rattle.video2d.proofs.SavedWalks.{register_if, registers_from}
 

@@ -1,11 +1,9 @@
-use Rattle.video2d.proofs.Words.{ℕ, zero, suc, ◌≡◌, ◌≢◌, ◌⊎◌, inl, inr, ◌<◌, ◌≤◌, ◌+◌, ◌-◌, ◌*◌, ◌/◌, ◌%◌, ◌^◌, ◌==◌, ◌&&◌, nat_le, Bool, true, List}
-use Rattle.video2d.proofs.Words.{length, Option, Some, None, bit_and, slice_index, slice_set, refl, sym, ◌∙◌, ap, subst, arith, Format, and_block}
-use Rattle.video2d.proofs.Words.{and_le_r, cases_eq, get_or-replicate, get_or-set_other, get_or-set_same, length-replicate, length-set, equal}
-use Rattle.video2d.proofs.Words.{is_equal, number_at, width_bytes, with_number, zeroes, Width, Byte, Half, Word, IsExact, Keeps, StandsFor, made}
-use Rattle.video2d.proofs.Words.{engine_bytes, engine_row_at, kept_bits_at, kept_by, ports_format, row_width, DisplayRow, Engine, A, B}
+use Rattle.video2d.proofs.Words.{A, B, Bool, Byte, DisplayRow, Engine, Format, Half, IsExact, Keeps, List, None, Option, Says, Some, StandsFor, Width}
+use Rattle.video2d.proofs.Words.{Word, and_block, and_le_r, ap, arith, bit_and, both, cases_eq, engine_bytes, engine_row_at, equal, get_or-replicate}
+use Rattle.video2d.proofs.Words.{get_or-set_other, get_or-set_same, inl, inr, is_equal, kept_bits_at, kept_by, length, length-replicate, length-set}
+use Rattle.video2d.proofs.Words.{made, nat_le, number_at, ports_format, refl, row_width, slice_index, slice_set, subst, suc, sym, true, width_bytes}
+use Rattle.video2d.proofs.Words.{with_number, zero, zeroes, ℕ, ◌%◌, ◌&&◌, ◌*◌, ◌+◌, ◌-◌, ◌/◌, ◌<◌, ◌==◌, ◌^◌, ◌∙◌, ◌≡◌, ◌≢◌, ◌≤◌, ◌⊎◌}
 use Rattle.std.proofs.lemmas.Grind.{same_number_lists}
-use Rattle.ds_base.proofs.Choices.{both}
-use Rattle.ds_state.proofs.Standing.{Says}
 use Rattle.video2d.proofs.SavedWalks.{register_if, registers_from, walked}
 
 -- An engine's registers in bytes.

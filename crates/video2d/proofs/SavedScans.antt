@@ -1,7 +1,5 @@
-use Rattle.std.proofs.Common.{ℕ, ◌≡◌, ◌<◌, ◌≤◌, ◌+◌, ◌-◌, ◌*◌, ◌/◌, ◌%◌, ◌==◌, nat_le, if◌then◌else◌, Bool, true, false, refl, ◌∙◌, ap, arith}
-use Rattle.ds_base.proofs.Choices.{either_by}
-use Rattle.video2d.specs.Saved.{ScansFollow}
-use Rattle.video2d.specs.Scans.{ScanState, scan_after, scan_before, scan_due}
+use Rattle.video2d.proofs.Words.{Bool, ScanState, ScansFollow, ap, arith, either_by, false, if◌then◌else◌, nat_le, refl, scan_after, scan_before}
+use Rattle.video2d.proofs.Words.{scan_due, true, ℕ, ◌%◌, ◌*◌, ◌+◌, ◌-◌, ◌/◌, ◌<◌, ◌==◌, ◌∙◌, ◌≡◌, ◌≤◌}
 
 -- Where the display is at each tick.
 

@@ -1,6 +1,5 @@
-use Rattle.video2d.proofs.Words.{ℕ, ◌≡◌, ◌+◌, List, Option, Some, None, refl, number_at, width_bytes, with_number, zeroes, Width, Format, number_code}
-use Rattle.video2d.proofs.Words.{keeps_mask, engine_bytes, engine_row_at, ports_format, row_width, DisplayRow, Engine, A, B}
-use Rattle.std.specs.Prelude.{zero, suc}
+use Rattle.video2d.proofs.Words.{A, B, DisplayRow, Engine, Format, List, None, Option, Some, Width, engine_bytes, engine_row_at, keeps_mask}
+use Rattle.video2d.proofs.Words.{number_at, number_code, ports_format, refl, row_width, suc, width_bytes, with_number, zero, zeroes, ℕ, ◌+◌, ◌≡◌}
 use Rattle.ds_state.specs.Formats.{then_field, done}
 
 -- The code goes over an engine's offsets, two or four bytes at a time, and past those where no register begins: it meets the rows' registers.

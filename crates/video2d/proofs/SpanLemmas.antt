@@ -1,7 +1,7 @@
-use Rattle.video2d.proofs.Words.{ℕ, ◌≡◌, ◌≢◌, ◌<◌, ◌≤◌, inl, inr, get_or, arith, cases_eq, ObjectPixel, FrontPixel, lanes_pixel, seen_objects, over_at}
+use Rattle.video2d.proofs.Words.{FrontPixel, Laid, ObjectPixel, arith, cases_eq, get_or, inl, inr, lanes_pixel, objects_over, over_at, seen_objects}
+use Rattle.video2d.proofs.Words.{ℕ, ◌<◌, ◌≡◌, ◌≢◌, ◌≤◌}
 use Rattle.obj2d.specs.declared.layers.ObjectLanes.{ObjectLanes}
-use Rattle.video2d.specs.declared.fronts.Laid.{Laid}
-use Rattle.video2d.specs.rows.Fronts.{AreBetween, objects_over}
+use Rattle.video2d.specs.rows.Fronts.{AreBetween}
 
 -- Objects of a priority change nothing where none of them is seen.
 

@@ -1,11 +1,10 @@
-use Rattle.video2d.proofs.Words.{ℕ, zero, suc, false, ◌≡◌, ◌≢◌, ◌+◌, ◌-◌, ◌*◌, ◌<◌, ◌≤◌, ◌==◌, ◌||◌, ◌∷◌, inl, inr, List, Option, Some, None, map}
-use Rattle.video2d.proofs.Words.{refl, sym, ◌∙◌, ap, subst, arith, cases_eq, range_with_len, bit, bits, Stop, EngineState, dispcnt, first_need}
-use Rattle.video2d.proofs.Words.{needs_of_object, needs_of_objects, Engine, AreAmong}
+use Rattle.video2d.proofs.Words.{Engine, EngineState, List, None, Option, Some, Stop, ap, arith, bit, bit_or, bits, cases_eq, dispcnt, false, inl}
+use Rattle.video2d.proofs.Words.{inr, map, range_with_len, refl, subst, suc, sym, zero, ℕ, ◌*◌, ◌+◌, ◌-◌, ◌<◌, ◌==◌, ◌||◌, ◌∙◌, ◌∷◌, ◌≡◌, ◌≢◌, ◌≤◌}
+use Rattle.video2d.specs.Stops.{first_need, needs_of_object, needs_of_objects}
+use Rattle.video2d.specs.rows.Needs.{AreAmong, IsAmong, NeedNothing}
 use Rattle.std.proofs.lemmas.Nat.Bits.{bit_at_or}
 use Rattle.std.specs.Int.{bit_at}
-use Rattle.std.specs.Int.Bits.{bit_or}
 use Rattle.obj2d.specs.Attributes.{mode, object_at, object_has_mosaic}
-use Rattle.video2d.specs.rows.Needs.{IsAmong, NeedNothing}
 
 -- The first need of numbers, one after another.
 

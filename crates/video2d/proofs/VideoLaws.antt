@@ -1,21 +1,20 @@
-use Rattle.video2d.proofs.Words.{ℕ, zero, suc, ◌≡◌, ◌≢◌, ◌⊎◌, inl, inr, ◌<◌, ◌≤◌, ◌+◌, ◌*◌, ◌/◌, ◌%◌, ◌^◌, ◌==◌, true, false, nat_lt, List, replicate}
-use Rattle.video2d.proofs.Words.{Option, Some, None, bit_and, slice_index, slice_set, refl, sym, ◌∙◌, ap, subst, arith, cases_eq, get_or-replicate}
-use Rattle.video2d.proofs.Words.{get_or-set_other, get_or-set_same, length-replicate, length-set, either, either_by, AllByRecursion, bit, number_at}
-use Rattle.video2d.proofs.Words.{zeroes, Stop, Width, Byte, Half, Word, kept_twice, Banks, display_row, engine_bytes, engine_row_at, EngineState}
-use Rattle.video2d.proofs.Words.{PointState, IsColour, IsEngine, IsFrame, IsPoint, IsDispstat, kept_bits_at, kept_by, engine_line, ScanState}
-use Rattle.video2d.proofs.Words.{scan_after, StatusState, VideoState, Dispstat, DisplayRow, Engine, A, B}
-use Rattle.ds_base.specs.Numbers.{aligned_down, is_within, put_by}
+use Rattle.video2d.proofs.Words.{A, AllByRecursion, B, Banks, Byte, DisplayRow, Dispstat, Engine, EngineState, Half, IsColour, IsDispstat, IsEngine}
+use Rattle.video2d.proofs.Words.{IsFrame, IsPoint, List, None, Option, PointState, ScanState, Some, Stop, Width, Word, aligned_down, ap, arith, bit}
+use Rattle.video2d.proofs.Words.{bit_and, cases_eq, display_row, either, either_by, engine_bytes, engine_line, engine_row_at, false, get_or-replicate}
+use Rattle.video2d.proofs.Words.{get_or-set_other, get_or-set_same, inl, inr, is_within, kept_at, kept_bits_at, kept_by, kept_twice, length-replicate}
+use Rattle.video2d.proofs.Words.{length-set, nat_lt, number_at, put_by, refl, replicate, scan_after, slice_index, slice_set, subst, suc, sym, true}
+use Rattle.video2d.proofs.Words.{zero, zeroes, ℕ, ◌%◌, ◌*◌, ◌+◌, ◌/◌, ◌<◌, ◌==◌, ◌^◌, ◌∙◌, ◌≡◌, ◌≢◌, ◌≤◌, ◌⊎◌}
+use Rattle.video2d.specs.Statuses.{StatusState, status_blanked, status_started, status_written, with_half_byte}
+use Rattle.video2d.specs.Videos.{VideoState, drawn_with, engine_of, hblank_set, line_drawn, unless_stop, video_after_event, video_blanked}
+use Rattle.video2d.specs.Videos.{video_byte_written, video_byte_written_by, video_happened, video_line_started, video_stop}
 use Rattle.ds_base.specs.declared.processors.Proc.{Proc}
 use Rattle.ds_base.specs.declared.processors.Proc.TheVariants.{Nine, Seven}
 use Rattle.video2d.proofs.Colours.{laid_frame, line_colours, line_long}
-use Rattle.video2d.specs.DisplayRegisters.{kept_at}
 use Rattle.video2d.specs.Engines.{coordinate_at, engine_at_boot, engine_byte_by, point_started, point_stepped, point_written, points_after, points_started, points_stepped, word_of_28, word_of_half}
 use Rattle.video2d.specs.VideoLaws.{IsVideo, StayTelling, StaysVideo, TellScan, TellsScan}
 use Rattle.video2d.specs.Pictures.{line_place, screen_of}
 use Rattle.video2d.specs.Ports.{video_port}
 use Rattle.video2d.specs.Scans.{blanks_drawn_line, line_after}
-use Rattle.video2d.specs.Statuses.{status_blanked, status_started, status_written, with_half_byte}
-use Rattle.video2d.specs.Videos.{drawn_with, engine_of, hblank_set, line_drawn, unless_stop, video_after_event, video_blanked, video_byte_written, video_byte_written_by, video_happened, video_line_started, video_stop}
 use Rattle.video2d.specs.declared.ports.VideoPort.{VideoPort}
 use Rattle.video2d.specs.declared.ports.VideoPort.TheVariants.{Status, Count, OfEngine, Power, Nothing}
 

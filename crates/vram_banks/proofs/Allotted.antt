@@ -1,9 +1,9 @@
-use Rattle.vram_banks.proofs.Words.{inl, inr, ℕ, zero, suc, ◌≡◌, ◌<◌, ◌+◌, ◌/◌, ◌%◌, ◌^◌, ◌==◌, ◌&&◌, ◌||◌, nat_lt, Bool, true, false, not, List, []}
-use Rattle.vram_banks.proofs.Words.{◌∷◌, length, Option, Some, None, refl, ap, sym, ◌∙◌, subst, arith, slice_index, if◌then◌else◌, mod_below}
-use Rattle.vram_banks.proofs.Words.{same_Some, none-some, space_size, aligned_down, value_by, put_by, Space, Arm7, Width, Byte, Half, Word, BankRow}
-use Rattle.vram_banks.proofs.Words.{rows_of, row_by, same_space, first_cell, Stands, Banks, allotted_bit, cell_there, byte_or_0, put_there, put_below}
-use Rattle.vram_banks.proofs.Words.{vram_byte, with_vram_byte, vram_value, vram_written, IsCellAt, mixed, cell_of}
-use Rattle.vram_banks.specs.Cells.{is_allotted, is_allotted_there, meets_allotted}
+use Rattle.vram_banks.proofs.Words.{Arm7, Banks, Bool, Byte, Half, IsCellAt, List, None, Option, Some, Space, Width, Word, [], aligned_down}
+use Rattle.vram_banks.proofs.Words.{allotted_bit, ap, arith, byte_or_0, cell_of, cell_there, false, if◌then◌else◌, inl, inr, is_allotted}
+use Rattle.vram_banks.proofs.Words.{is_allotted_there, length, meets_allotted, mixed, mod_below, nat_lt, none-some, not, put_below, put_by, put_there}
+use Rattle.vram_banks.proofs.Words.{refl, same_Some, slice_index, space_size, subst, suc, sym, true, value_by, vram_byte, vram_value, vram_written}
+use Rattle.vram_banks.proofs.Words.{with_vram_byte, zero, ℕ, ◌%◌, ◌&&◌, ◌+◌, ◌/◌, ◌<◌, ◌==◌, ◌^◌, ◌||◌, ◌∙◌, ◌∷◌, ◌≡◌}
+use Rattle.vram_banks.specs.BankMap.{BankRow, rows_of, row_by, same_space, first_cell, Stands}
 use Rattle.vram_banks.proofs.CellLemmas.{with_bytes}
 use Rattle.vram_banks.proofs.MapLaws.{size_of_bank, each_of_nine, row_by-first, same_numbers, fits_of, cell_stands, there_flat}
 use Rattle.vram_banks.proofs.Mixes.{mixed_own, mixed_other, mixed_set_own, mixed_set_other}

@@ -1,15 +1,12 @@
-use Rattle.vram_banks.proofs.Words.{ℕ, zero, suc, ◌≡◌, ◌≢◌, ◌<◌, ◌+◌, ◌-◌, ◌/◌, ◌%◌, inl, inr, List, get_or, set, Option, Some, None, refl, sym, ◌∙◌}
-use Rattle.vram_banks.proofs.Words.{subst, arith, slice_index, slice_set, drop, same_or_not, Width, Byte, Half, Word, Empty, One, width_bytes}
-use Rattle.vram_banks.proofs.Words.{value_by, put_by, cell_of, or_at, put_in_cells, NoneBelow, IsFound, Banks, byte_or_0, or_below, put_there}
-use Rattle.vram_banks.proofs.Words.{put_below}
-use Rattle.vram_banks.proofs.Words.{◌≤◌, ABg, ABgPalette, AObj, AObjPalette, Arm7, BBg, BBgPalette, BObj, BObjPalette, Lcdc, Space, space_size}
-use Rattle.std.proofs.Common.{add-one, bit_or}
-use Rattle.std.proofs.lemmas.Bool.{cases_lt}
+use Rattle.vram_banks.proofs.Words.{ABg, ABgPalette, AObj, AObjPalette, Arm7, BBg, BBgPalette, BObj, BObjPalette, Banks, Byte, Empty, Half, IsCellRun}
+use Rattle.vram_banks.proofs.Words.{IsFound, Lcdc, List, None, One, Option, Some, Space, Width, Word, add-one, arith, bit_or, byte_or_0, cases_lt}
+use Rattle.vram_banks.proofs.Words.{cell_of, drop, get_or, get_or-drop, get_or-take, inl, inr, or_at, or_below, put_below, put_by, put_in_cells}
+use Rattle.vram_banks.proofs.Words.{put_there, refl, same_or_not, set, slice_index, slice_set, space_size, subst, suc, sym, value_by, width_bytes}
+use Rattle.vram_banks.proofs.Words.{zero, ℕ, ◌%◌, ◌+◌, ◌-◌, ◌/◌, ◌<◌, ◌∙◌, ◌≡◌, ◌≢◌, ◌≤◌}
+use Rattle.vram_banks.specs.paging.Pages.{NoneBelow, OneBelow}
 use Rattle.vram_banks.specs.declared.maps.CellRun.{CellRun}
 use lib.Bits.{or_zero_r, or_zero_l}
 use Rattle.std.specs.List.{slice_range}
-use Rattle.std.proofs.lemmas.List.{get_or-take, get_or-drop}
-use Rattle.vram_banks.specs.paging.Pages.{OneBelow, IsCellRun}
 
 pub or_none : (f : ℕ → ℕ) → or_below 0 f ≡ 0
 unfolding or_below

@@ -1,5 +1,4 @@
-use Rattle.vram_banks.proofs.Words.{ℕ, Bool, true, false, ◌==◌, refl, arith, if◌then◌else◌, opaque_pixel, indexed_pixel}
-use Rattle.vram_banks.specs.Colours.{HasForm}
+use Rattle.vram_banks.proofs.Words.{Bool, HasForm, arith, false, if◌then◌else◌, indexed_pixel, opaque_pixel, refl, true, ℕ, ◌==◌}
 
 -- A pixel has bit 15 set, or is 0.
 

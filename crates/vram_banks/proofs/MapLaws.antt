@@ -1,14 +1,10 @@
-use Rattle.vram_banks.proofs.Words.{ℕ, ◌≡◌, ◌≢◌, ◌<◌, ◌≤◌, ◌+◌, ◌-◌, ◌*◌, ◌/◌, ◌%◌, ◌^◌, ◌⊎◌, inl, inr, Bool, true, false, not, ◌||◌, ◌&&◌, ◌==◌}
-use Rattle.vram_banks.proofs.Words.{nat_lt, List, [], ◌∷◌, get_or, Option, Some, None, refl, ap, sym, ◌∙◌, subst, arith, if◌then◌else◌, same_Some}
-use Rattle.vram_banks.proofs.Words.{none-some, same_or_not, space_size, Space, ABg, BBg, AObj, BObj, Lcdc, Arm7, ABgPalette, BBgPalette, AObjPalette}
-use Rattle.vram_banks.proofs.Words.{BObjPalette, Window, BankRow, rows_of, row_by, chosen_row, row_start, same_space, first_cell, Stands, StandsIn}
-use Rattle.vram_banks.proofs.Words.{allotted_bit, cell_there, origin_of, no_window, window_of, cell_in, cell_of}
-use Rattle.std.proofs.Common.{nat_le}
-use Rattle.ds_base.proofs.Choices.{low_or_high}
+use Rattle.vram_banks.proofs.Words.{ABg, ABgPalette, AObj, AObjPalette, Arm7, BBg, BBgPalette, BObj, BObjPalette, Bool, Lcdc, List, None, Option}
+use Rattle.vram_banks.proofs.Words.{Some, Space, Window, [], allotted_bit, ap, arith, cell_by, cell_of, cell_there, false, get_or, if◌then◌else◌, inl}
+use Rattle.vram_banks.proofs.Words.{inr, low_or_high, nat_le, nat_lt, none-some, not, origin_of, refl, same_Some, same_or_not, space_size, subst, sym}
+use Rattle.vram_banks.proofs.Words.{true, ℕ, ◌%◌, ◌&&◌, ◌*◌, ◌+◌, ◌-◌, ◌/◌, ◌<◌, ◌==◌, ◌^◌, ◌||◌, ◌∙◌, ◌∷◌, ◌≡◌, ◌≢◌, ◌≤◌, ◌⊎◌}
+use Rattle.vram_banks.specs.BankMap.{BankRow, rows_of, row_by, chosen_row, row_start, same_space, first_cell, Stands, StandsIn, space_number}
+use Rattle.vram_banks.specs.paging.Flat.{no_window, window_of, cell_in, window_by}
 use Rattle.ds_base.specs.Bits.{bits}
-use Rattle.vram_banks.specs.BankMap.{space_number}
-use Rattle.vram_banks.specs.Cells.{cell_by}
-use Rattle.vram_banks.specs.paging.Flat.{window_by}
 
 -- every row of a table lies in its space, and its bytes in its bank, which has n
 abbrev pub all_fit : ℕ → List BankRow → Bool

@@ -1,7 +1,6 @@
-use Rattle.vram_banks.proofs.Words.{ℕ, zero, suc, ◌≡◌, ◌<◌, ◌+◌, ◌/◌, ◌%◌, Bool, true, false, List, [], ◌∷◌, length, drop, slice_index, slice_set}
-use Rattle.vram_banks.proofs.Words.{refl, ap, sym, ◌∙◌, subst, arith, add-zero, Width, Byte, Half, Word, width_bytes, mixed}
-use Rattle.std.proofs.Common.{if◌then◌else◌, length-set}
-use Rattle.ds_base.specs.Numbers.{number_at, with_number}
+use Rattle.vram_banks.proofs.Words.{Bool, Byte, Half, List, Width, Word, [], add-zero, ap, arith, drop, false, if◌then◌else◌, length, length-set}
+use Rattle.vram_banks.proofs.Words.{mixed, number_at, refl, slice_index, slice_set, subst, suc, sym, true, width_bytes, with_number, zero, ℕ, ◌%◌}
+use Rattle.vram_banks.proofs.Words.{◌+◌, ◌/◌, ◌<◌, ◌∙◌, ◌∷◌, ◌≡◌}
 
 -- ---- one byte of a list that two owners share
 

@@ -1,13 +1,11 @@
-use Rattle.vram_banks.proofs.Words.{ℕ, ◌≡◌, ◌<◌, ◌≤◌, ◌+◌, ◌-◌, ◌*◌, ◌/◌, ◌%◌, ◌⊎◌, inl, inr, List, length, get_or, set, [], ◌∷◌, Option, Some, None}
-use Rattle.vram_banks.proofs.Words.{refl, sym, ◌∙◌, ap, subst, arith, get_or-set_same, get_or-set_other, same_or_not, Empty, One, Window, first_cell}
-use Rattle.vram_banks.proofs.Words.{IsControl, no_window, window_of, cell_in, cell_of, NoneBelow, IsPageBelow, IsFound, ArePages, cell_among}
+use Rattle.vram_banks.proofs.Words.{ArePages, Empty, IsControl, IsFound, IsPageBelow, List, None, One, Option, Several, Some, Window, [], ap, arith}
+use Rattle.vram_banks.proofs.Words.{cell_among, cell_of, get_or, get_or-set_other, get_or-set_same, get_or_default, inl, inr, length, refl}
+use Rattle.vram_banks.proofs.Words.{same_or_not, set, subst, sym, ℕ, ◌%◌, ◌*◌, ◌+◌, ◌-◌, ◌/◌, ◌<◌, ◌∙◌, ◌∷◌, ◌≡◌, ◌≤◌, ◌⊎◌}
+use Rattle.vram_banks.specs.BankMap.{first_cell, mst_bits, kept_bank_control}
+use Rattle.vram_banks.specs.paging.Flat.{no_window, window_of, cell_in, IsRoomy}
+use Rattle.vram_banks.specs.paging.Pages.{NoneBelow, AreWindows, window_at, page_at, with_cell}
 use Rattle.std.proofs.lemmas.Grind.{common_steps}
-use Rattle.std.proofs.lemmas.List.{get_or_default}
 use Rattle.vram_banks.specs.declared.maps.Page.{Page}
-use Rattle.vram_banks.specs.declared.maps.Page.TheVariants.{Several}
-use Rattle.vram_banks.specs.BankMap.{mst_bits, kept_bank_control}
-use Rattle.vram_banks.specs.paging.Flat.{IsRoomy}
-use Rattle.vram_banks.specs.paging.Pages.{AreWindows, window_at, page_at, with_cell}
 
 -- where the banks below n have none, and bank n has this
 none_more : (f : ℕ → Option ℕ) (n : ℕ) → NoneBelow f n → f n ≡ None → NoneBelow f (n + 1)

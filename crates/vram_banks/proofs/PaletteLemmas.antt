@@ -1,6 +1,5 @@
-use Rattle.vram_banks.proofs.Words.{ℕ, ◌≡◌, ◌<◌, ◌+◌, ◌-◌, ◌*◌, ◌%◌, ◌==◌, true, false, List, get_or, refl, sym, ◌∙◌, ap, arith, if◌then◌else◌, Space}
-use Rattle.vram_banks.proofs.Words.{Banks, vram_byte, opaque_pixel, palette_colour, indexed_pixel}
-use Rattle.vram_banks.specs.Colours.{extended_colour, table_pixel}
+use Rattle.vram_banks.proofs.Words.{Banks, List, Space, ap, arith, extended_colour, false, get_or, if◌then◌else◌, indexed_pixel, opaque_pixel}
+use Rattle.vram_banks.proofs.Words.{palette_colour, refl, sym, table_pixel, true, vram_byte, ℕ, ◌%◌, ◌*◌, ◌+◌, ◌-◌, ◌<◌, ◌==◌, ◌∙◌, ◌≡◌}
 
 -- A palette that was read at once has the colours that are read one by one.
 

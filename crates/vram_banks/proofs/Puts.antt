@@ -1,4 +1,4 @@
-use Rattle.std.proofs.Common.{ℕ, zero, suc, ◌≡◌, ◌≤◌, ◌+◌, List, [], ◌∷◌, length, refl, ap, arith, slice_index, slice_set}
+use Rattle.vram_banks.proofs.Words.{List, [], ap, arith, length, refl, slice_index, slice_set, suc, zero, ℕ, ◌+◌, ◌∷◌, ◌≡◌, ◌≤◌}
 use native.Mathlib.Numerals.{unary_clauses}
 use borrow.Rule.Slice.PartMut.{put_mid}
 

@@ -1,5 +1,4 @@
-use Rattle.std.proofs.Common.{rules, ℕ, ◌≡◌, List, [], ◌∷◌, length, slice_index, refl, arith}
-use Rattle.vram_banks.specs.Cells.{Banks, AreBanks}
+use Rattle.vram_banks.proofs.Words.{AreBanks, Banks, List, [], arith, length, refl, rules, slice_index, ℕ, ◌∷◌, ◌≡◌}
 use Rattle.vram_banks.specs.Saved.{BanksAreSaved, banks_format, banks_size}
 use Rattle.ds_state.proofs.Standing.{IsExact, StandsFor}
 use Rattle.ds_state.proofs.Exact.{one_spelling, round_trips}

@@ -1,15 +1,13 @@
-use Rattle.vram_banks.proofs.Words.{ℕ, zero, suc, ◌≡◌, ◌≢◌, ◌<◌, ◌+◌, ◌*◌, ◌/◌, ◌%◌, ◌^◌, ◌⊎◌, inl, inr, List, length, get_or, Option, Some, None}
-use Rattle.vram_banks.proofs.Words.{refl, ap, sym, ◌∙◌, subst, arith, add-zero, mod_below, same_Some, none-some, get_or-set_same, get_or-set_other}
-use Rattle.vram_banks.proofs.Words.{same_or_not, space_size, width_bytes, aligned_down, value_by, put_by, Space, ABg, BBg, AObj, BObj, Lcdc, Arm7}
-use Rattle.vram_banks.proofs.Words.{ABgPalette, BBgPalette, AObjPalette, BObjPalette, Width, Byte, Half, Word, BankRow, chosen_row, row_start}
-use Rattle.vram_banks.proofs.Words.{first_cell, origin_of, window_of, cell_of, or_at, put_in_cells, Banks, byte_or_0, or_below, put_there, put_below}
-use Rattle.vram_banks.proofs.Words.{cell_there, vram_byte, with_vram_byte, vram_value, vram_written, IsOr, IsCellAt, IsRead, IsWritten}
-use Rattle.std.proofs.Common.{max}
+use Rattle.vram_banks.proofs.Words.{ABg, ABgPalette, AObj, AObjPalette, Arm7, BBg, BBgPalette, BObj, BObjPalette, Banks, Byte, Half, IsCellAt, IsOr}
+use Rattle.vram_banks.proofs.Words.{IsRead, IsWritten, Lcdc, List, None, Option, Some, Space, Width, Word, add-zero, aligned_down, ap, arith}
+use Rattle.vram_banks.proofs.Words.{byte_or_0, cell_of, cell_there, div-add-mod', get_or, get_or-set_other, get_or-set_same, inl, inr, length}
+use Rattle.vram_banks.proofs.Words.{length-set, max, mod-mul-add, mod_below, mul-mod, none-some, or_at, or_below, or_lt, origin_of, put_below, put_by}
+use Rattle.vram_banks.proofs.Words.{put_in_cells, put_there, refl, same_Some, same_or_not, space_size, subst, suc, sym, value_by, vram_byte}
+use Rattle.vram_banks.proofs.Words.{vram_value, vram_written, width_bytes, with_vram_byte, zero, ℕ, ◌%◌, ◌*◌, ◌+◌, ◌/◌, ◌<◌, ◌^◌, ◌∙◌, ◌≡◌, ◌≢◌, ◌⊎◌}
+use Rattle.vram_banks.specs.BankMap.{BankRow, chosen_row, row_start, first_cell, IsThere}
+use Rattle.vram_banks.specs.paging.Flat.{window_of}
 use Rattle.std.specs.Int.{bit_at}
 use Rattle.std.proofs.lemmas.Nat.Bits.{bit_at_or, bit_at-zero, bit_at-lt}
-use Rattle.std.proofs.lemmas.Nat.{or_lt, mod-mul-add, mul-mod, div-add-mod'}
-use Rattle.std.proofs.lemmas.List.{length-set}
-use Rattle.vram_banks.specs.BankMap.{IsThere}
 use Rattle.vram_banks.proofs.MapLaws.{stands_cell, cell_stands, there_flat, Found, found_window, one_cell, fits_of, first_cell-inside}
 
 -- some bank's cell stands at a flat address

@@ -1,10 +1,7 @@
-use Rattle.std.proofs.Common.{ℕ, ◌≡◌, ◌<◌, ◌≤◌, ◌+◌, ◌*◌, ◌%◌, ◌^◌, List, [], ◌∷◌, zero, suc, inl, inr, length, map, take, drop, get_or, bit_and, refl, ◌∙◌, ap, arith}
+use Rattle.vram_banks.proofs.Words.{List, [], and_mask, ap, arith, bit_and, cases_lt, drop, get_or, get_or_past, inl, inr, length, map, opaque_pixel}
+use Rattle.vram_banks.proofs.Words.{palette_colour, refl, suc, take, zero, ℕ, ◌%◌, ◌*◌, ◌+◌, ◌<◌, ◌^◌, ◌∙◌, ◌∷◌, ◌≡◌, ◌≤◌}
 use Rattle.std.specs.Simd.Lanes.{chunk, number_l, digits_l}
-use Rattle.std.proofs.lemmas.Bool.{cases_lt}
-use Rattle.std.proofs.lemmas.List.{get_or_past}
-use Rattle.std.proofs.lemmas.Nat.{and_mask}
 use Rattle.std.proofs.lemmas.Simd.{get_or_wider, get_or-chunk, length-chunk, Each1-from_get_or}
-use Rattle.vram_banks.specs.Colours.{opaque_pixel, palette_colour}
 
 -- Eight colours of a palette at once.
 

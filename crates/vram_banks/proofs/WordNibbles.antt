@@ -1,5 +1,4 @@
-use Rattle.vram_banks.proofs.Words.{ℕ, zero, suc, ◌≡◌, ◌<◌, ◌+◌, ◌*◌, ◌/◌, ◌%◌, ◌^◌, ◌∙◌, ap, arith, value_by, Word}
-use Rattle.vram_banks.specs.Tiles.{nibble_at}
+use Rattle.vram_banks.proofs.Words.{Word, ap, arith, nibble_at, suc, value_by, zero, ℕ, ◌%◌, ◌*◌, ◌+◌, ◌/◌, ◌<◌, ◌^◌, ◌∙◌, ◌≡◌}
 
 -- The nibbles of a word are those of its bytes.
 

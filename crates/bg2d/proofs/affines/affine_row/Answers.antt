@@ -1,5 +1,4 @@
-use Rattle.std.proofs.Common.{sym, subst}
-use Rattle.vram_banks.specs.Colours.{HasForm}
+use Rattle.bg2d.proofs.Words.{HasForm, subst, sym}
 use Rattle.bg2d.proofs.FormLemmas.{affine_form}
 use Rattle.bg2d.proofs.affines.affine_row.Goals as goal
 

@@ -1,4 +1,4 @@
-use Rattle.std.proofs.Common.{◌∙◌}
+use Rattle.bg2d.proofs.Words.{◌∙◌}
 use Rattle.bg2d.proofs.AffineLemmas.{wrapped_is_pixel}
 use Rattle.bg2d.proofs.affines.wrapped_pixel.Goals as goal
 

@@ -1,5 +1,4 @@
-use Rattle.std.proofs.Common.{ℕ, ◌≡◌, ◌<◌, get_or}
-use Rattle.bg2d.specs.AffinePixels.{affine_pixel}
+use Rattle.bg2d.proofs.Words.{affine_pixel, get_or, ℕ, ◌<◌, ◌≡◌}
 use Rattle.bg2d.proofs.affines.wrapped_row.Given as goal
 
 abbrev pub invariant-loop-x : goal.invariant-loop-x

@@ -1,4 +1,4 @@
-use Rattle.std.proofs.Common.{arith}
+use Rattle.bg2d.proofs.Words.{arith}
 use Rattle.bg2d.proofs.TilingLemmas.{indices_of_256}
 use Rattle.bg2d.proofs.texts.copy_rows.Goals as goal
 

@@ -1,7 +1,4 @@
-use Rattle.std.proofs.Common.{ℕ, ◌≡◌, ◌<◌, ◌+◌, ◌*◌, get_or}
-use Rattle.vram_banks.specs.Bases.{background_space}
-use Rattle.vram_banks.specs.Cells.{vram_byte}
-use Rattle.bg2d.specs.rows.Tiling.{text_base, tile_offset}
+use Rattle.bg2d.proofs.Words.{background_space, get_or, text_base, tile_offset, vram_byte, ℕ, ◌*◌, ◌+◌, ◌<◌, ◌≡◌}
 use Rattle.bg2d.proofs.texts.copy_rows.Given as goal
 
 abbrev pub invariant-loop-k : goal.invariant-loop-k

@@ -1,4 +1,4 @@
-use Rattle.std.proofs.Common.{◌∙◌}
+use Rattle.bg2d.proofs.Words.{◌∙◌}
 use Rattle.bg2d.proofs.TilingLemmas.{entry_of_blocks}
 use Rattle.bg2d.proofs.texts.entry_among.Goals as goal
 

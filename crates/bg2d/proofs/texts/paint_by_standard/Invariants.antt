@@ -1,4 +1,4 @@
-use Rattle.bg2d.specs.rows.Tiling.{ArePainted}
+use Rattle.bg2d.proofs.Words.{ArePainted}
 use Rattle.bg2d.proofs.texts.paint_by_standard.Given as goal
 
 abbrev pub invariant-loop-k : goal.invariant-loop-k

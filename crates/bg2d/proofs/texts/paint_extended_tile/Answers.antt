@@ -1,7 +1,4 @@
-use Rattle.std.proofs.Common.{ℕ, Bool, ◌+◌, ◌∙◌, ap, get_or, arith}
-use Rattle.ds_base.specs.Bits.{bit}
-use Rattle.vram_banks.specs.Colours.{indexed_pixel, palette_colour}
-use Rattle.vram_banks.specs.Tiles.{flipped}
+use Rattle.bg2d.proofs.Words.{Bool, ap, arith, bit, flipped, get_or, indexed_pixel, palette_colour, ℕ, ◌+◌, ◌∙◌}
 use Rattle.bg2d.proofs.TilingLemmas.{kept_pixel}
 use Rattle.bg2d.proofs.texts.paint_extended_tile.Goals as goal
 

@@ -1,10 +1,6 @@
-use Rattle.std.proofs.Common.{ℕ, Bool, ◌≡◌, ◌<◌, ◌+◌, ◌*◌, ◌/◌, ◌%◌, ◌^◌, ◌∙◌, ap, sym, get_or, arith}
-use Rattle.ds_base.specs.Bits.{bit, bits}
-use Rattle.vram_banks.specs.Cells.{vram_byte}
-use Rattle.vram_banks.specs.Colours.{indexed_pixel}
-use Rattle.vram_banks.specs.Tiles.{flipped, nibble_at}
+use Rattle.bg2d.proofs.Words.{Bool, ap, arith, bit, bits, flipped, get_or, indexed_pixel, nibble_at, sym, text_base, tile_offset, vram_byte, ℕ, ◌%◌}
+use Rattle.bg2d.proofs.Words.{◌*◌, ◌+◌, ◌/◌, ◌<◌, ◌^◌, ◌∙◌, ◌≡◌}
 use Rattle.bg2d.specs.TextPixels.{text_colour, text_index}
-use Rattle.bg2d.specs.rows.Tiling.{text_base, tile_offset}
 use Rattle.bg2d.proofs.TilingLemmas.{flipped_below, index_16, table_16}
 use Rattle.bg2d.proofs.texts.paint_narrow_tile.Goals as goal
 

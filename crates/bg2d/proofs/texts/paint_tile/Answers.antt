@@ -1,6 +1,4 @@
-use Rattle.std.proofs.Common.{ℕ, Bool, ◌+◌, ◌∙◌, ap, get_or, arith}
-use Rattle.ds_base.specs.Bits.{bit}
-use Rattle.vram_banks.specs.Tiles.{flipped}
+use Rattle.bg2d.proofs.Words.{Bool, ap, arith, bit, flipped, get_or, ℕ, ◌+◌, ◌∙◌}
 use Rattle.bg2d.proofs.TilingLemmas.{table_256}
 use Rattle.bg2d.proofs.texts.paint_tile.Goals as goal
 

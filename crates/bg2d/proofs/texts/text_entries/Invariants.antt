@@ -1,4 +1,4 @@
-use Rattle.bg2d.specs.rows.Tiling.{AreEntries}
+use Rattle.bg2d.proofs.Words.{AreEntries}
 use Rattle.bg2d.proofs.texts.text_entries.Given as goal
 
 abbrev pub invariant-loop-k : goal.invariant-loop-k

@@ -1,9 +1,5 @@
-use Rattle.std.proofs.Common.{ℕ, List, ◌+◌, ◌*◌, ◌/◌, ◌%◌, ap, sym, subst, ◌∙◌, get_or, arith}
-use Rattle.vram_banks.specs.Cells.{Banks}
-use Rattle.bg2d.specs.declared.layers.TextLayer.{TextLayer}
+use Rattle.bg2d.proofs.Words.{AreEntries, Banks, HasForm, List, TextLayer, ap, arith, get_or, subst, sym, tiled_pixel, ℕ, ◌%◌, ◌*◌, ◌+◌, ◌/◌, ◌∙◌}
 use Rattle.bg2d.specs.TextPixels.{text_width, text_height, text_entry}
-use Rattle.bg2d.specs.rows.Tiling.{tiled_pixel, AreEntries}
-use Rattle.vram_banks.specs.Colours.{HasForm}
 use Rattle.bg2d.proofs.FormLemmas.{text_form}
 use Rattle.bg2d.proofs.TilingLemmas.{tiles_are_tiled, tiled_is_text, index_of_range}
 use Rattle.bg2d.proofs.texts.text_row.Goals as goal

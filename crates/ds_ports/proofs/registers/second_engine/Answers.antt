@@ -1,7 +1,6 @@
-use Rattle.ds_ports.proofs.Words.{sym, ◌∙◌, ap, slot_from, B}
+use Rattle.ds_ports.proofs.Words.{B, ap, engine_registers, slot_from, sym, ◌∙◌}
 use Rattle.ds_ports.proofs.DisplayRows.{among_rows}
 use Rattle.ds_ports.proofs.registers.second_engine.Goals as goal
-use Rattle.video2d.specs.DisplayRegisters.{engine_registers}
 
 pub returns-in-Nine : goal.returns-in-Nine
 returns-in-Nine c =

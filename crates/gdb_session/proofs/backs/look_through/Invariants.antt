@@ -1,4 +1,4 @@
-use Rattle.std.proofs.Common.{◌≡◌}
+use Rattle.gdb_session.proofs.Words.{◌≡◌}
 use Rattle.gdb_session.proofs.backs.look_through.Given as goal
 
 abbrev pub invariant-rounds : goal.invariant-rounds

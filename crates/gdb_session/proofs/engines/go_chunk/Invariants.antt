@@ -1,4 +1,4 @@
-use Rattle.std.proofs.Common.{◌≡◌}
+use Rattle.gdb_session.proofs.Words.{◌≡◌}
 use Rattle.gdb_session.proofs.engines.go_chunk.Given as goal
 
 abbrev pub invariant-steps : goal.invariant-steps

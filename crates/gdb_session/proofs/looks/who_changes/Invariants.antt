@@ -1,4 +1,4 @@
-use Rattle.std.proofs.Common.{◌≡◌}
+use Rattle.gdb_session.proofs.Words.{◌≡◌}
 use Rattle.gdb_session.proofs.looks.who_changes.Given as goal
 
 abbrev pub invariant-steps : goal.invariant-steps

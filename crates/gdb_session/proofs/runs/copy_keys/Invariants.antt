@@ -1,4 +1,4 @@
-use Rattle.std.proofs.Common.{◌≡◌, take}
+use Rattle.gdb_session.proofs.Words.{take, ◌≡◌}
 use Rattle.gdb_session.proofs.runs.copy_keys.Given as goal
 
 abbrev pub invariant-lines : goal.invariant-lines

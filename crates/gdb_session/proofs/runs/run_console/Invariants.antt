@@ -1,4 +1,4 @@
-use Rattle.gdb_session.specs.Tapes.{ComesFrom}
+use Rattle.gdb_session.proofs.Words.{ComesFrom}
 use Rattle.gdb_session.proofs.runs.run_console.Given as goal
 
 abbrev pub invariant-frames : goal.invariant-frames

@@ -1,5 +1,4 @@
-use Rattle.std.proofs.Common.{◌≡◌, ◌∙◌, ◌<◌, ◌^◌, sym, true, false, arith}
-use Rattle.gx_fifo.specs.Unpacking.{stops_at}
+use Rattle.gx_fifo.proofs.Words.{arith, false, stops_at, sym, true, ◌<◌, ◌^◌, ◌∙◌, ◌≡◌}
 use Rattle.gx_fifo.proofs.Unpacks.{passes, passes_left, room_rest, stops, stops_left}
 use Rattle.gx_fifo.proofs.packed.unpack.Goals as goal
 

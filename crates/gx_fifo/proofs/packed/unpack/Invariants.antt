@@ -1,6 +1,4 @@
-use Rattle.std.proofs.Common.{◌≡◌, ◌≤◌, ◌+◌, ◌++◌, length}
-use Rattle.gx_fifo.specs.Entries.{most_entries}
-use Rattle.gx_fifo.specs.PackedWords.{added_by, bytes_left, packed_commands}
+use Rattle.gx_fifo.proofs.Words.{added_by, bytes_left, length, most_entries, packed_commands, ◌++◌, ◌+◌, ◌≡◌, ◌≤◌}
 use Rattle.gx_fifo.proofs.packed.unpack.Given as goal
 
 -- what is left to unpack gives what all gives at the start

@@ -1,6 +1,4 @@
-use Rattle.std.proofs.Common.{◌^◌, pos, negsuc, ◌*ℤ◌, ◌≤ℤ◌, FitsSigned, arith}
-use Rattle.std.specs.Int.{w128}
-use Rattle.std.proofs.lemmas.Int.{ints, to_z-of_z}
+use Rattle.gx_geometry.proofs.Words.{FitsSigned, arith, ints, negsuc, pos, to_z-of_z, w128, ◌*ℤ◌, ◌^◌, ◌≤ℤ◌}
 use Rattle.gx_geometry.proofs.Sides.{product_low, product_high, product_fits}
 use Rattle.gx_geometry.proofs.polygons.wide_product.Goals as goal
 

@@ -1,5 +1,4 @@
-use Rattle.std.proofs.Common.{ℕ, ◌<◌, slice_index_or}
-use Rattle.gx_geometry.specs.SavedKept.{FitsLight, dark_light}
+use Rattle.gx_geometry.proofs.Words.{FitsLight, dark_light, slice_index_or, ℕ, ◌<◌}
 use Rattle.gx_geometry.proofs.widths.are_lights.Given as goal
 
 abbrev pub invariant-loop-light : goal.invariant-loop-light

@@ -1,6 +1,4 @@
-use Rattle.std.proofs.Common.{ℕ, ◌<◌, slice_index_or}
-use Rattle.gx_geometry.specs.BoundLaws.{no_polygon}
-use Rattle.gx_geometry.specs.SavedKept.{FitsPolygon}
+use Rattle.gx_geometry.proofs.Words.{FitsPolygon, no_polygon, slice_index_or, ℕ, ◌<◌}
 use Rattle.gx_geometry.proofs.widths.are_polygons.Given as goal
 
 abbrev pub invariant-loop-polygon : goal.invariant-loop-polygon

@@ -1,5 +1,4 @@
-use Rattle.std.proofs.Common.{ℕ, ◌<◌, pos, FitsSigned, slice_index_or}
-use Rattle.std.specs.Int.{w32}
+use Rattle.gx_geometry.proofs.Words.{FitsSigned, pos, slice_index_or, w32, ℕ, ◌<◌}
 use Rattle.gx_geometry.proofs.widths.are_signed.Given as goal
 
 abbrev pub invariant-loop-word : goal.invariant-loop-word

@@ -1,6 +1,4 @@
-use Rattle.std.proofs.Common.{ℕ, ◌<◌, slice_index_or}
-use Rattle.gx_geometry.specs.Polygons.{no_vertex}
-use Rattle.gx_geometry.specs.SavedKept.{FitsVertex}
+use Rattle.gx_geometry.proofs.Words.{FitsVertex, no_vertex, slice_index_or, ℕ, ◌<◌}
 use Rattle.gx_geometry.proofs.widths.are_vertices.Given as goal
 
 abbrev pub invariant-loop-vertex : goal.invariant-loop-vertex

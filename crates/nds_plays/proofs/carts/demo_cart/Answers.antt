@@ -1,4 +1,4 @@
-use Rattle.nds_plays.proofs.Words.{sym, subst, IsAccepted}
+use Rattle.nds_plays.proofs.Words.{IsAccepted, subst, sym}
 use Rattle.nds_plays.proofs.Bodies.{all_put, demo_accepted}
 use Rattle.nds_plays.proofs.carts.demo_cart.Goals as goal
 

@@ -1,4 +1,4 @@
-use Rattle.nds_plays.proofs.Words.{ℕ, ◌≡◌, ap, ◌∙◌, ◌++◌, List, flat_map, map, arith, range_with_len, little_bytes, drawn, body}
+use Rattle.nds_plays.proofs.Words.{List, ap, arith, body, drawn, flat_map, little_bytes, map, range_with_len, ℕ, ◌++◌, ◌∙◌, ◌≡◌}
 use Rattle.nds_plays.proofs.Bodies.{nothing_put, one_more, word_at, word_more, body_whole}
 use Rattle.nds_plays.proofs.carts.put_body.Goals as goal
 

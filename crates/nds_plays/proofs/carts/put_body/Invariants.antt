@@ -1,4 +1,4 @@
-use Rattle.nds_plays.proofs.Words.{◌≡◌, ◌++◌, flat_map, map, range_with_len, little_bytes, drawn}
+use Rattle.nds_plays.proofs.Words.{drawn, flat_map, little_bytes, map, range_with_len, ◌++◌, ◌≡◌}
 use Rattle.nds_plays.proofs.Bodies.{word_at}
 use Rattle.nds_plays.proofs.carts.put_body.Given as goal
 

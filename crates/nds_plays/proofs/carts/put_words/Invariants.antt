@@ -1,4 +1,4 @@
-use Rattle.nds_plays.proofs.Words.{◌≡◌, ◌++◌, flat_map, take, little_bytes}
+use Rattle.nds_plays.proofs.Words.{flat_map, little_bytes, take, ◌++◌, ◌≡◌}
 use Rattle.nds_plays.proofs.carts.put_words.Given as goal
 
 -- the words so far were put

@@ -1,7 +1,7 @@
-use Rattle.nds_plays.proofs.Words.{ℕ, ◌+◌, ◌++◌, ◌∷◌, [], List, refl, sym, ◌∙◌, ap, map-range_with_len_more, bytes_at}
+use Rattle.nds_plays.proofs.Words.{List, [], ap, bytes_at, memory_of, refl, sym, ℕ, ◌++◌, ◌+◌, ◌∙◌, ◌∷◌}
+use Rattle.std.proofs.lemmas.List.FromFn.{map-range_with_len_more}
 use Rattle.std.proofs.Common.{length-set, slice_index}
 use Rattle.std.proofs.lemmas.List.{take_more_set}
-use Rattle.ds_machine.specs.Inspections.{memory_of}
 use Rattle.nds_plays.proofs.peeks.copy.Goals as goal
 
 pub loop-i-preserved : goal.loop-i-preserved

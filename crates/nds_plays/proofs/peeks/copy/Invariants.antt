@@ -1,4 +1,4 @@
-use Rattle.nds_plays.proofs.Words.{◌≡◌, length, take, bytes_at}
+use Rattle.nds_plays.proofs.Words.{bytes_at, length, take, ◌≡◌}
 use Rattle.nds_plays.proofs.peeks.copy.Given as goal
 
 -- the bytes so far were taken

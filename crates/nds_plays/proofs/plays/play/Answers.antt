@@ -1,5 +1,5 @@
-use Rattle.nds_plays.proofs.Words.{Option, sym, ◌∙◌, ◌++◌, ap, subst, LeftOut, Appended, ending, shown_after, Wrote, last_records, latest_of}
-use Rattle.nds_plays.proofs.Words.{rose_within}
+use Rattle.nds_plays.proofs.Words.{Appended, LeftOut, Option, ap, ending, last_records, latest_of, rose_within, shown_after, subst, sym, ◌++◌, ◌∙◌}
+use Rattle.nds_plays.specs.Plays.{Wrote}
 use Rattle.nds_plays.proofs.Playing.{WroteShort, all_written, front_written, put_whole, so_of_ok}
 use Rattle.ds_io.proofs.Putting.{puts_failed}
 use Rattle.nds_plays.proofs.plays.play.Goals as goal

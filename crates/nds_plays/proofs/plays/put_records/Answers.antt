@@ -1,4 +1,4 @@
-use Rattle.nds_plays.proofs.Words.{ending, shown_after, last_records, latest_of, puts_then}
+use Rattle.nds_plays.proofs.Words.{ending, last_records, latest_of, puts_then, shown_after}
 use Rattle.nds_plays.proofs.plays.put_records.Goals as goal
 
 pub returns-clause-put : goal.returns-clause-put

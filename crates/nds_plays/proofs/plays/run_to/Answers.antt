@@ -1,4 +1,4 @@
-use Rattle.nds_plays.proofs.Words.{err_from_is_err_and, append_none, rose_within}
+use Rattle.nds_plays.proofs.Words.{append_none, err_from_is_err_and, rose_within}
 use Rattle.nds_plays.proofs.Playing.{writing_first, writing_shown, front_at, writing_over, writing_stopped}
 use Rattle.nds_plays.proofs.plays.run_to.Goals as goal
 

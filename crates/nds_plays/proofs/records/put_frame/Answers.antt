@@ -1,4 +1,4 @@
-use Rattle.nds_plays.proofs.Words.{ℕ, List, [], ◌∷◌, ◌++◌, subst, err_from_is_err_and, AppendedFront, front_of_more, Puts, halves, longs, puts_then}
+use Rattle.nds_plays.proofs.Words.{AppendedFront, List, Puts, [], err_from_is_err_and, front_of_more, halves, longs, puts_then, subst, ℕ, ◌++◌, ◌∷◌}
 use Rattle.nds_plays.proofs.Framing.{frame_split}
 use Rattle.nds_plays.proofs.records.put_frame.Goals as goal
 

@@ -1,4 +1,4 @@
-use Rattle.std.proofs.Common.{ℕ, List, length, sym, ◌∙◌, ap}
+use Rattle.nds_plays.proofs.Words.{List, ap, length, sym, ℕ, ◌∙◌}
 use Rattle.nds_plays.proofs.Lengths.{frame_few}
 use Rattle.nds_plays.proofs.records.put_last_frame.Goals as goal
 

@@ -1,4 +1,4 @@
-use Rattle.nds_plays.proofs.Words.{option_to_list, last_frame, last_lists, lists_records, frame_records, puts_then}
+use Rattle.nds_plays.proofs.Words.{frame_records, last_frame, last_lists, lists_records, option_to_list, puts_then}
 use Rattle.nds_plays.proofs.records.put_latest.Goals as goal
 
 pub returns-clause-put : goal.returns-clause-put

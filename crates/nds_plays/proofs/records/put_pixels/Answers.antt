@@ -1,5 +1,5 @@
-use Rattle.nds_plays.proofs.Words.{ℕ, ◌+◌, ◌*◌, List, ◌++◌, take, drop, sym, subst, arith, err_from_is_err_and, Appended, AppendedFront, append_none}
-use Rattle.nds_plays.proofs.Words.{append_twice, front_after, front_of_more, halves}
+use Rattle.nds_plays.proofs.Words.{Appended, AppendedFront, List, append_none, append_twice, arith, drop, err_from_is_err_and, front_after}
+use Rattle.nds_plays.proofs.Words.{front_of_more, halves, subst, sym, take, ℕ, ◌*◌, ◌++◌, ◌+◌}
 use Rattle.nds_plays.proofs.Rows.{halves_none, row_lent, rows_more, rows_whole}
 use Rattle.nds_plays.proofs.records.put_pixels.Goals as goal
 

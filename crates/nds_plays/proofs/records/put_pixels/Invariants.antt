@@ -1,4 +1,4 @@
-use Rattle.nds_plays.proofs.Words.{◌≤◌, ◌*◌, take, Appended, halves}
+use Rattle.nds_plays.proofs.Words.{Appended, halves, take, ◌*◌, ◌≤◌}
 use Rattle.nds_plays.proofs.records.put_pixels.Given as goal
 
 -- the rows so far were written

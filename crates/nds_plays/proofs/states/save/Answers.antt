@@ -1,4 +1,4 @@
-use Rattle.nds_plays.proofs.Words.{reference, At}
+use Rattle.nds_plays.proofs.Words.{At, reference}
 use Rattle.nds_plays.specs.States.{IsReady}
 use Rattle.nds_plays.proofs.Saving.{ends_over, read_again}
 use Rattle.nds_plays.proofs.states.save.Goals as goal

@@ -1,5 +1,5 @@
-use Rattle.nds_plays.proofs.Words.{ℕ, ◌<◌, ◌≤◌, ◌+◌, refl, ◌∙◌, ap, arith, append_none, dues_of, ConsoleState, IsTickBefore}
-use Rattle.ds_runs.proofs.RunLaws.{over_here}
+use Rattle.nds_plays.proofs.Words.{ConsoleState, ap, append_none, arith, dues_of, over_here, refl, ℕ, ◌+◌, ◌<◌, ◌∙◌, ◌≤◌}
+use Rattle.run_ahead.specs.TickTurns.{IsTickBefore}
 use Rattle.nds_plays.proofs.Leads.{turn_leads, turn_stops}
 use Rattle.nds_plays.proofs.Tracing.{counts_down, tracing_first, tracing_on, tracing_full, tracing_over, tracing_stopped, tracing_failed}
 use Rattle.nds_plays.proofs.steps.trace.Goals as goal

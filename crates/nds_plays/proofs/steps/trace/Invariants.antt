@@ -1,4 +1,4 @@
-use Rattle.std.proofs.Common.{◌≡◌, ◌+◌, ◌*◌, ◌-◌, None, max}
+use Rattle.nds_plays.proofs.Words.{None, max, ◌*◌, ◌+◌, ◌-◌, ◌≡◌}
 use Rattle.nds_plays.proofs.Tracing.{Tracing}
 use Rattle.nds_plays.proofs.steps.trace.Given as goal
 

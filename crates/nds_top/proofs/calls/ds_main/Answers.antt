@@ -1,4 +1,4 @@
-use Rattle.nds_top.proofs.Words.{[], refl, nothing, command}
+use Rattle.nds_top.proofs.Words.{[], command, nothing, refl}
 use Rattle.nds_words.specs.CommandLaws.{asked_by}
 use Rattle.nds_top.proofs.calls.ds_main.Goals as goal
 

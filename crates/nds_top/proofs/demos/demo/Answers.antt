@@ -1,5 +1,5 @@
-use Rattle.nds_top.proofs.Words.{inl, refl, sym, ◌≡◌, ◌∙◌, ap, subst, Some, List, ℕ, [], same_Some, KeyLine, machine_booted, ConsoleState, Status}
-use Rattle.nds_top.proofs.Words.{around, switched_on, WritesAfter, demo_of, played_status, DemoGives, demo_booted}
+use Rattle.nds_top.proofs.Words.{ConsoleState, DemoGives, KeyLine, List, Some, Status, WritesAfter, [], ap, around, demo_booted, demo_of, inl}
+use Rattle.nds_top.proofs.Words.{machine_booted, played_status, refl, same_Some, subst, switched_on, sym, ℕ, ◌∙◌, ◌≡◌}
 use Rattle.nds_plays.specs.Demos.{demo_file}
 use Rattle.nds_top.proofs.Viewing.{wrote_in}
 use Rattle.nds_top.proofs.demos.demo.Goals as goal

@@ -1,4 +1,4 @@
-use Rattle.std.proofs.Common.{inl, take, refl}
+use Rattle.nds_top.proofs.Words.{inl, refl, take}
 use Rattle.nds_top.proofs.listings.assemble.Goals as goal
 
 pub returns-in-Ok-put_all : goal.returns-in-Ok-put_all

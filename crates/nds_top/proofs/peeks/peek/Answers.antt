@@ -1,4 +1,4 @@
-use Rattle.nds_top.proofs.Words.{inl, inr, refl, sym, subst, option_map, Some, Status, GivesBy, around, seated_is, peeked, played_status, WroteAfter}
+use Rattle.nds_top.proofs.Words.{GivesBy, Some, Status, WroteAfter, around, inl, inr, option_map, peeked, played_status, refl, seated_is, subst, sym}
 use Rattle.nds_top.proofs.Viewing.{wrote_in}
 use Rattle.nds_top.proofs.peeks.peek.Goals as goal
 

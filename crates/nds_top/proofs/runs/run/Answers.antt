@@ -1,4 +1,4 @@
-use Rattle.nds_top.proofs.Words.{inl, inr, refl, option_map, subst, machine_booted, ConsoleState, switched_on, seated_is, RunsSo}
+use Rattle.nds_top.proofs.Words.{ConsoleState, RunsSo, inl, inr, machine_booted, option_map, refl, seated_is, subst, switched_on}
 use Rattle.nds_top.proofs.Answering.{ran_from}
 use Rattle.nds_top.proofs.Running.{at_ticks}
 use Rattle.nds_top.proofs.runs.run.Goals as goal

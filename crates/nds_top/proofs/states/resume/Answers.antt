@@ -1,4 +1,4 @@
-use Rattle.nds_top.proofs.Words.{◌≡◌, ◌<◌, Option, None, inl, inr, refl, option_map, subst, IsSomeAnd, ConsoleState}
+use Rattle.nds_top.proofs.Words.{ConsoleState, IsSomeAnd, None, Option, inl, inr, option_map, refl, subst, ◌<◌, ◌≡◌}
 use Rattle.nds_top.proofs.Answering.{ran_from}
 use Rattle.nds_top.proofs.Resuming.{seated_state}
 use Rattle.nds_top.proofs.Running.{later_limit}

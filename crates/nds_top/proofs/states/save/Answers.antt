@@ -1,5 +1,5 @@
-use Rattle.nds_top.proofs.Words.{inl, inr, refl, sym, subst, option_map, Option, Some, IsSomeAnd, ConsoleState, Status, GivesBy, around, IsReady}
-use Rattle.nds_top.proofs.Words.{seated_is, played_status, SavedBy}
+use Rattle.nds_top.proofs.Words.{ConsoleState, GivesBy, IsReady, IsSomeAnd, Option, SavedBy, Some, Status, around, inl, inr, option_map}
+use Rattle.nds_top.proofs.Words.{played_status, refl, seated_is, subst, sym}
 use Rattle.nds_top.proofs.Viewing.{saved_in}
 use Rattle.nds_top.proofs.states.save.Goals as goal
 

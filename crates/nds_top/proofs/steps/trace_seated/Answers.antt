@@ -1,5 +1,5 @@
-use Rattle.nds_top.proofs.Words.{inl, inr, refl, sym, subst, option_map, None, machine_booted, Status, GivesBy, around, seated_is, played_status}
-use Rattle.nds_top.proofs.Words.{TracedBy}
+use Rattle.nds_top.proofs.Words.{GivesBy, None, Status, TracedBy, around, inl, inr, machine_booted, option_map, played_status, refl, seated_is, subst}
+use Rattle.nds_top.proofs.Words.{sym}
 use Rattle.nds_top.proofs.Viewing.{traced_in}
 use Rattle.nds_top.proofs.steps.trace_seated.Goals as goal
 

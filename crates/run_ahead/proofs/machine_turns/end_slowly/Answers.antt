@@ -1,4 +1,4 @@
-use Rattle.std.proofs.Common.{sym, ◌∙◌}
+use Rattle.run_ahead.proofs.Words.{sym, ◌∙◌}
 use Rattle.run_ahead.proofs.Stretches.{some_of}
 use Rattle.run_ahead.proofs.machine_turns.end_slowly.Goals as goal
 

@@ -1,4 +1,4 @@
-use Rattle.run_ahead.proofs.Words.{◌^◌, arith}
+use Rattle.run_ahead.proofs.Words.{arith, ◌^◌}
 use Rattle.run_ahead.proofs.StepTurns.{first_acts}
 use Rattle.run_ahead.proofs.machine_turns.first_processor.Goals as goal
 

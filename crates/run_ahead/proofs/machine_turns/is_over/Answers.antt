@@ -1,5 +1,4 @@
-use Rattle.run_ahead.proofs.Words.{sym, ◌∙◌}
-use Rattle.ds_base.proofs.Choices.{not_true}
+use Rattle.run_ahead.proofs.Words.{not_true, sym, ◌∙◌}
 use Rattle.run_ahead.proofs.StepTurns.{ends_over, over_all}
 use Rattle.run_ahead.proofs.machine_turns.is_over.Goals as goal
 

@@ -1,5 +1,4 @@
-use Rattle.run_ahead.proofs.Words.{inl, inr, sym, ◌∙◌, ap, Nine, Seven, actor_of}
-use Rattle.ds_machine.proofs.DueTicks.{sort_rank}
+use Rattle.run_ahead.proofs.Words.{Nine, Seven, actor_of, ap, inl, inr, sort_rank, sym, ◌∙◌}
 use Rattle.ds_machine.proofs.Ranks.{processor_ranked}
 use Rattle.run_ahead.proofs.machine_turns.processor_of.Goals as goal
 

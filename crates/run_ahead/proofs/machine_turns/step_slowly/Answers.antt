@@ -1,5 +1,4 @@
-use Rattle.run_ahead.proofs.Words.{Option, not, true≢false, refl, ap, sym, ◌∙◌, subst, arith, LeftOut, rank_of, Steps}
-use Rattle.ds_machine.specs.StepAnswers.{done_of}
+use Rattle.run_ahead.proofs.Words.{LeftOut, Option, Steps, ap, arith, done_of, not, rank_of, refl, subst, sym, true≢false, ◌∙◌}
 use Rattle.run_ahead.proofs.Stretches.{some_of, told_acts, told_below, told_catches}
 use Rattle.run_ahead.proofs.machine_turns.step_slowly.Goals as goal
 

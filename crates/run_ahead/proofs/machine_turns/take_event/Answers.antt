@@ -1,5 +1,4 @@
-use Rattle.run_ahead.proofs.Words.{inl, arith, MayAct}
-use Rattle.ds_machine.proofs.ActingSteps.{acting_may_step}
+use Rattle.run_ahead.proofs.Words.{MayAct, acting_may_step, arith, inl}
 use Rattle.run_ahead.proofs.StepTurns.{event_took}
 use Rattle.run_ahead.proofs.machine_turns.take_event.Goals as goal
 

@@ -1,5 +1,5 @@
-use Rattle.run_ahead.proofs.Words.{◌<◌, true≢false, [], Option, sym, ap, subst, arith, LeftOut, Tick, last_limit, BelongsToTurn, TakesSteps, no_steps}
-use Rattle.run_ahead.proofs.Words.{more_steps, HasEnds, own_remaining, Ends, MachineState, turn_steps_fall, running_along, TookStretch}
+use Rattle.run_ahead.proofs.Words.{BelongsToTurn, Ends, HasEnds, LeftOut, MachineState, Option, TakesSteps, Tick, TookStretch, [], ap, arith}
+use Rattle.run_ahead.proofs.Words.{last_limit, more_steps, no_steps, own_remaining, running_along, subst, sym, true≢false, turn_steps_fall, ◌<◌}
 use Rattle.ds_machine.proofs.EndTicks.{ends_after}
 use Rattle.run_ahead.proofs.Stretches.{own_along, sound_along, takes_twice, took_twice}
 use Rattle.run_ahead.proofs.machine_turns.take_stretch.Goals as goal

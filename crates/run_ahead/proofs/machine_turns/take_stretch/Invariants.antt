@@ -1,4 +1,4 @@
-use Rattle.run_ahead.proofs.Words.{◌≡◌, None, HasEnds, HasLimit, TakesSteps, own_remaining}
+use Rattle.run_ahead.proofs.Words.{HasEnds, HasLimit, None, TakesSteps, own_remaining, ◌≡◌}
 use Rattle.run_ahead.proofs.machine_turns.take_stretch.Given as goal
 
 -- the steps so far belong to the turn, none stopped, and it is known when the processor isn't the least acting one any more, and by what that is found

@@ -1,4 +1,4 @@
-use Rattle.run_ahead.proofs.Words.{sym, subst, Proc, HasLimit, TookStretch}
+use Rattle.run_ahead.proofs.Words.{HasLimit, Proc, TookStretch, subst, sym}
 use Rattle.run_ahead.proofs.machine_turns.take_stretch_of.Goals as goal
 
 pub take_stretch-requires-clause-limit : goal.take_stretch-requires-clause-limit

@@ -1,5 +1,5 @@
-use Rattle.run_ahead.proofs.Words.{[], Option, refl, sym, subst, arith, LeftOut, last_limit, BelongsToTurn, TakesSteps, no_steps, more_steps}
-use Rattle.run_ahead.proofs.Words.{MachineState, turn_steps_fall, running_along, TookStretch}
+use Rattle.run_ahead.proofs.Words.{BelongsToTurn, LeftOut, MachineState, Option, TakesSteps, TookStretch, [], arith, last_limit, more_steps, no_steps}
+use Rattle.run_ahead.proofs.Words.{refl, running_along, subst, sym, turn_steps_fall}
 use Rattle.run_ahead.proofs.Stretches.{sound_along}
 use Rattle.run_ahead.proofs.machine_turns.take_stretch_slowly.Goals as goal
 

@@ -1,4 +1,4 @@
-use Rattle.run_ahead.proofs.Words.{◌≡◌, None, TakesSteps, own_remaining}
+use Rattle.run_ahead.proofs.Words.{None, TakesSteps, own_remaining, ◌≡◌}
 use Rattle.run_ahead.proofs.machine_turns.take_stretch_slowly.Given as goal
 
 -- the steps so far belong to the turn, and none stopped

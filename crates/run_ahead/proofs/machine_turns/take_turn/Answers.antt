@@ -1,4 +1,4 @@
-use Rattle.run_ahead.proofs.Words.{inl, inr, subst, arith, IsLeast, acting_dues, acting_low}
+use Rattle.run_ahead.proofs.Words.{IsLeast, acting_dues, acting_low, arith, inl, inr, subst}
 use Rattle.run_ahead.proofs.StepTurns.{before_all, over_from}
 use Rattle.run_ahead.proofs.machine_turns.take_turn.Goals as goal
 

@@ -1,4 +1,4 @@
-use Rattle.video2d.proofs.Words.{◌∙◌, ap, bit, lanes_pixel, finished_where, shown_bits_at}
+use Rattle.video2d.proofs.Words.{ap, bit, finished_where, lanes_pixel, shown_bits_at, ◌∙◌}
 use Rattle.video2d.proofs.LineLemmas.{line_composed}
 use Rattle.video2d.proofs.compositions.composed_line.Goals as goal
 

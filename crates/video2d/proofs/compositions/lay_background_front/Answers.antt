@@ -1,4 +1,4 @@
-use Rattle.video2d.proofs.Words.{◌≡◌, false, sym, ◌∙◌, bit, background_pixel, is_background_on, front_at, background_seen, shown_bits_at}
+use Rattle.video2d.proofs.Words.{background_pixel, background_seen, bit, false, front_at, is_background_on, shown_bits_at, sym, ◌∙◌, ◌≡◌}
 use Rattle.video2d.specs.Layers.{shown_through}
 use Rattle.video2d.proofs.LineLemmas.{hidden_clear, put_clear}
 use Rattle.video2d.proofs.PlainLemmas.{off_clear}

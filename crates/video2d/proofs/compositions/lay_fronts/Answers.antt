@@ -1,4 +1,4 @@
-use Rattle.video2d.proofs.Words.{◌∙◌, ap, lanes_pixel, palette_colour, put_all, put_turn, started, layers_through, shown_bits_at}
+use Rattle.video2d.proofs.Words.{ap, lanes_pixel, layers_through, palette_colour, put_all, put_turn, shown_bits_at, started, ◌∙◌}
 use Rattle.video2d.proofs.compositions.lay_fronts.Goals as goal
 
 pub returns : goal.returns

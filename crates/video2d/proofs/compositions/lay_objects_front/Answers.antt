@@ -1,5 +1,4 @@
-use Rattle.video2d.proofs.Words.{ℕ, subst}
-use Rattle.obj2d.specs.ObjectLaws.{IsInSpan}
+use Rattle.video2d.proofs.Words.{IsInSpan, subst, ℕ}
 use Rattle.video2d.proofs.compositions.lay_objects_front.Goals as goal
 
 pub lay_front_objects-requires-clause-within : goal.lay_front_objects-requires-clause-within

@@ -1,5 +1,4 @@
-use Rattle.std.proofs.lemmas.List.{get_or-replicate}
-use Rattle.video2d.proofs.Words.{false}
+use Rattle.video2d.proofs.Words.{false, get_or-replicate}
 use Rattle.video2d.proofs.frames.all_lines.Goals as goal
 
 pub returns : goal.returns

@@ -1,4 +1,4 @@
-use Rattle.video2d.proofs.Words.{ℕ, ◌≡◌, ◌<◌, get_or, front_at, front_kind}
+use Rattle.video2d.proofs.Words.{front_at, front_kind, get_or, ℕ, ◌<◌, ◌≡◌}
 use Rattle.video2d.proofs.fronts.kinds_of.Given as goal
 
 abbrev pub invariant-loop-x : goal.invariant-loop-x

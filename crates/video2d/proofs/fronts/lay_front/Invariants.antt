@@ -1,4 +1,4 @@
-use Rattle.video2d.proofs.Words.{ℕ, ◌≡◌, ◌<◌, ◌≤◌, get_or, front_at, front_over}
+use Rattle.video2d.proofs.Words.{front_at, front_over, get_or, ℕ, ◌<◌, ◌≡◌, ◌≤◌}
 use Rattle.video2d.proofs.fronts.lay_front.Given as goal
 
 abbrev pub invariant-loop-x : goal.invariant-loop-x

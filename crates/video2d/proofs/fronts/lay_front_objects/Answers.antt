@@ -1,6 +1,4 @@
-use Rattle.video2d.proofs.Words.{front_at, sym, ◌∙◌, arith}
-use Rattle.std.proofs.lemmas.Bool.{cases_lt}
-use Rattle.std.proofs.Common.{inl, inr, refl}
+use Rattle.video2d.proofs.Words.{arith, cases_lt, front_at, inl, inr, refl, sym, ◌∙◌}
 use Rattle.video2d.proofs.SpanLemmas.{outside_front}
 use Rattle.video2d.proofs.fronts.lay_front_objects.Goals as goal
 

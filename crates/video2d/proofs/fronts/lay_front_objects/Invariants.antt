@@ -1,5 +1,4 @@
-use Rattle.video2d.proofs.Words.{ℕ, ◌≡◌, ◌<◌, ◌≤◌, lanes_pixel, front_at}
-use Rattle.video2d.specs.rows.Fronts.{objects_over}
+use Rattle.video2d.proofs.Words.{front_at, lanes_pixel, objects_over, ℕ, ◌<◌, ◌≡◌, ◌≤◌}
 use Rattle.video2d.proofs.fronts.lay_front_objects.Given as goal
 
 abbrev pub invariant-loop-x : goal.invariant-loop-x

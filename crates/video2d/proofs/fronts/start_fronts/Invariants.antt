@@ -1,4 +1,4 @@
-use Rattle.video2d.proofs.Words.{ℕ, ◌≡◌, ◌<◌, front_at, started}
+use Rattle.video2d.proofs.Words.{front_at, started, ℕ, ◌<◌, ◌≡◌}
 use Rattle.video2d.proofs.fronts.start_fronts.Given as goal
 
 abbrev pub invariant-loop-x : goal.invariant-loop-x

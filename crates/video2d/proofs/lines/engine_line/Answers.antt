@@ -1,5 +1,4 @@
-use Rattle.std.proofs.lemmas.List.FromFn.{fill_by_all}
-use Rattle.video2d.specs.Pictures.{engine_line, engine_pixel, whole_line}
+use Rattle.video2d.proofs.Words.{engine_line, engine_pixel, fill_by_all, whole_line}
 use Rattle.video2d.proofs.lines.engine_line.Goals as goal
 
 pub returns : goal.returns

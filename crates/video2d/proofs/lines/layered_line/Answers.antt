@@ -1,4 +1,4 @@
-use Rattle.std.proofs.Common.{sym, ◌∙◌}
+use Rattle.video2d.proofs.Words.{sym, ◌∙◌}
 use Rattle.video2d.proofs.PlainLemmas.{calm_layered, plain_layered}
 use Rattle.video2d.proofs.lines.layered_line.Goals as goal
 

@@ -1,5 +1,5 @@
-use Rattle.video2d.proofs.Words.{ℕ, sym, ◌∙◌, ap, ObjectPixel, object_pixel, calm_over}
-use Rattle.video2d.specs.Engines.{engine_number}
+use Rattle.video2d.proofs.Words.{ObjectPixel, ap, engine_number, object_pixel, sym, ℕ, ◌∙◌}
+use Rattle.video2d.specs.rows.Plain.{calm_over}
 use Rattle.video2d.proofs.PlainLemmas.{calm_blank}
 use Rattle.video2d.proofs.plains.calm_line.Goals as goal
 

@@ -1,4 +1,4 @@
-use Rattle.video2d.proofs.Words.{◌≡◌, false, sym, ◌∙◌, get_or, is_background_on, background_seen}
+use Rattle.video2d.proofs.Words.{background_seen, false, get_or, is_background_on, sym, ◌∙◌, ◌≡◌}
 use Rattle.video2d.proofs.PlainLemmas.{off_clear, over_clear}
 use Rattle.video2d.proofs.plains.lay_background.Goals as goal
 

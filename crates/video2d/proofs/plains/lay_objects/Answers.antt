@@ -1,6 +1,4 @@
-use Rattle.video2d.proofs.Words.{get_or, sym, ◌∙◌, arith}
-use Rattle.std.proofs.lemmas.Bool.{cases_lt}
-use Rattle.std.proofs.Common.{inl, inr, refl}
+use Rattle.video2d.proofs.Words.{arith, cases_lt, get_or, inl, inr, refl, sym, ◌∙◌}
 use Rattle.video2d.proofs.SpanLemmas.{outside_over}
 use Rattle.video2d.proofs.plains.lay_objects.Goals as goal
 

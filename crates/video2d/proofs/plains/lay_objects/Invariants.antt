@@ -1,4 +1,4 @@
-use Rattle.video2d.proofs.Words.{ℕ, ◌≡◌, ◌<◌, ◌≤◌, get_or, lanes_pixel, seen_objects, over_at}
+use Rattle.video2d.proofs.Words.{get_or, lanes_pixel, over_at, seen_objects, ℕ, ◌<◌, ◌≡◌, ◌≤◌}
 use Rattle.video2d.proofs.plains.lay_objects.Given as goal
 
 abbrev pub invariant-loop-x : goal.invariant-loop-x

@@ -1,4 +1,4 @@
-use Rattle.video2d.proofs.Words.{ℕ, ◌≡◌, ◌<◌, ◌≤◌, get_or, laid_over}
+use Rattle.video2d.proofs.Words.{get_or, laid_over, ℕ, ◌<◌, ◌≡◌, ◌≤◌}
 use Rattle.video2d.proofs.plains.lay_row.Given as goal
 
 abbrev pub invariant-loop-x : goal.invariant-loop-x

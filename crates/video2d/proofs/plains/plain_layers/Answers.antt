@@ -1,4 +1,4 @@
-use Rattle.std.proofs.Common.{◌%◌, ◌^◌, sym, ◌∙◌, ap}
+use Rattle.video2d.proofs.Words.{ap, sym, ◌%◌, ◌^◌, ◌∙◌}
 use Rattle.video2d.proofs.PlainLemmas.{backdrop_alone}
 use Rattle.video2d.proofs.plains.plain_layers.Goals as goal
 

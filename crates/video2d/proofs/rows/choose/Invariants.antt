@@ -1,4 +1,4 @@
-use Rattle.std.proofs.Common.{ℕ, ◌≡◌, ◌<◌, ◌≤◌, ◌==◌, if◌then◌else◌, get_or}
+use Rattle.video2d.proofs.Words.{get_or, if◌then◌else◌, ℕ, ◌<◌, ◌==◌, ◌≡◌, ◌≤◌}
 use Rattle.video2d.proofs.rows.choose.Given as goal
 
 abbrev pub invariant-loop-x : goal.invariant-loop-x

@@ -1,4 +1,4 @@
-use Rattle.std.proofs.Common.{ℕ, ◌<◌, ◌≤◌, get_or}
+use Rattle.video2d.proofs.Words.{get_or, ℕ, ◌<◌, ◌≤◌}
 use Rattle.video2d.proofs.rows.most_of.Given as goal
 
 abbrev pub invariant-loop-x : goal.invariant-loop-x

@@ -1,4 +1,4 @@
-use Rattle.std.proofs.Common.{ℕ, ◌≡◌, ◌<◌, ◌≤◌, ◌*◌, length, get_or}
+use Rattle.video2d.proofs.Words.{get_or, length, ℕ, ◌*◌, ◌<◌, ◌≡◌, ◌≤◌}
 use Rattle.video2d.proofs.screens.copy_line.Given as goal
 
 abbrev pub invariant-loop-i : goal.invariant-loop-i

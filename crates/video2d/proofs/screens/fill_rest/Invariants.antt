@@ -1,5 +1,4 @@
-use Rattle.std.proofs.Common.{ℕ, ◌≡◌, ◌<◌, ◌≤◌, ◌*◌, length, get_or}
-use Rattle.video2d.specs.rows.Frames.{frame_pixel}
+use Rattle.video2d.proofs.Words.{frame_pixel, get_or, length, ℕ, ◌*◌, ◌<◌, ◌≡◌, ◌≤◌}
 use Rattle.video2d.proofs.screens.fill_rest.Given as goal
 
 abbrev pub invariant-loop-number : goal.invariant-loop-number

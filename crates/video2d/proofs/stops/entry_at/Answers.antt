@@ -1,4 +1,4 @@
-use Rattle.std.proofs.Common.{ℕ, ◌+◌, ◌*◌, slice_index}
+use Rattle.video2d.proofs.Words.{slice_index, ℕ, ◌*◌, ◌+◌}
 use Rattle.video2d.proofs.StopLemmas.{entry_bits}
 use Rattle.video2d.proofs.stops.entry_at.Goals as goal
 

@@ -1,4 +1,5 @@
-use Rattle.video2d.proofs.Words.{refl, sym, ◌∙◌, arith, needs_of_object, needs_of_objects}
+use Rattle.video2d.proofs.Words.{arith, refl, sym, ◌∙◌}
+use Rattle.video2d.specs.Stops.{needs_of_object, needs_of_objects}
 use Rattle.video2d.proofs.StopLemmas.{needs_here, needs_later, needs_none, nothing_needed, nothing_needed_off}
 use Rattle.video2d.proofs.stops.needs_of_objects.Goals as goal
 

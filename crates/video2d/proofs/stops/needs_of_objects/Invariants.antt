@@ -1,4 +1,5 @@
-use Rattle.video2d.proofs.Words.{◌≡◌, ◌-◌, map, range_with_len, first_need, needs_of_object, needs_of_objects}
+use Rattle.video2d.proofs.Words.{map, range_with_len, ◌-◌, ◌≡◌}
+use Rattle.video2d.specs.Stops.{first_need, needs_of_object, needs_of_objects}
 use Rattle.video2d.proofs.stops.needs_of_objects.Given as goal
 
 abbrev pub invariant-loop-n : goal.invariant-loop-n

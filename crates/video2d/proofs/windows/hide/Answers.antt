@@ -1,5 +1,5 @@
+use Rattle.video2d.proofs.Words.{get_or}
 use Rattle.video2d.proofs.LineLemmas.{shown_whole}
-use Rattle.std.proofs.Common.{get_or}
 use Rattle.video2d.proofs.windows.hide.Goals as goal
 
 pub returns-then-shown : goal.returns-then-shown

@@ -1,4 +1,4 @@
-use Rattle.video2d.proofs.Words.{ℕ, ◌≡◌, ◌<◌, ◌≤◌, if◌then◌else◌, get_or, bit}
+use Rattle.video2d.proofs.Words.{bit, get_or, if◌then◌else◌, ℕ, ◌<◌, ◌≡◌, ◌≤◌}
 use Rattle.video2d.proofs.windows.hide.Given as goal
 
 abbrev pub invariant-loop-x : goal.invariant-loop-x

@@ -1,4 +1,4 @@
-use Rattle.std.proofs.Common.{arith}
+use Rattle.vram_banks.proofs.Words.{arith}
 use Rattle.vram_banks.proofs.cells.are_narrow.Goals as goal
 
 pub returns : goal.returns

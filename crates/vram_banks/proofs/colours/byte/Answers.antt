@@ -1,4 +1,4 @@
-use Rattle.vram_banks.proofs.Words.{ap, ◌∙◌, arith, vram_byte}
+use Rattle.vram_banks.proofs.Words.{ap, arith, vram_byte, ◌∙◌}
 use Rattle.vram_banks.proofs.colours.byte.Goals as goal
 
 pub returns : goal.returns

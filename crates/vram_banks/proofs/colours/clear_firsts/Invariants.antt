@@ -1,5 +1,4 @@
-use Rattle.std.proofs.Common.{ℕ, ◌≡◌, ◌<◌, ◌*◌, ◌%◌, ◌==◌, ◌&&◌, get_or}
-use Rattle.std.specs.Prelude.{nat_lt, if◌then◌else◌}
+use Rattle.vram_banks.proofs.Words.{get_or, if◌then◌else◌, nat_lt, ℕ, ◌%◌, ◌&&◌, ◌*◌, ◌<◌, ◌==◌, ◌≡◌}
 use Rattle.vram_banks.proofs.colours.clear_firsts.Given as goal
 
 abbrev pub invariant-loop-k : goal.invariant-loop-k

@@ -1,4 +1,4 @@
-use Rattle.std.proofs.Common.{◌+◌, ◌-◌, ◌*◌, arith}
+use Rattle.vram_banks.proofs.Words.{arith, ◌*◌, ◌+◌, ◌-◌}
 use Rattle.vram_banks.proofs.TableLemmas.{lane_is_colour}
 use Rattle.vram_banks.proofs.colours.eight_colours.Goals as goal
 

@@ -1,4 +1,4 @@
-use Rattle.vram_banks.proofs.Words.{ℕ, List, ◌≡◌, ◌+◌, ◌%◌, ◌^◌, ◌∙◌, length, map, get_or, bit_and, ap, sym, arith, opaque_pixel}
+use Rattle.vram_banks.proofs.Words.{List, ap, arith, bit_and, get_or, length, map, opaque_pixel, sym, ℕ, ◌%◌, ◌+◌, ◌^◌, ◌∙◌, ◌≡◌}
 use Rattle.std.proofs.lemmas.Simd.{put_chunk_whole}
 use Rattle.vram_banks.proofs.TableLemmas.{lane_is_pixel, pixels_are}
 use Rattle.vram_banks.proofs.colours.eight_pixels.Goals as goal

@@ -1,4 +1,4 @@
-use Rattle.vram_banks.proofs.Words.{ℕ, ◌≡◌, ◌+◌, ◌*◌, ◌/◌, ◌%◌, ◌∙◌, get_or, ap, sym, arith, opaque_pixel, palette_colour}
+use Rattle.vram_banks.proofs.Words.{ap, arith, get_or, opaque_pixel, palette_colour, sym, ℕ, ◌%◌, ◌*◌, ◌+◌, ◌/◌, ◌∙◌, ◌≡◌}
 use Rattle.vram_banks.proofs.colours.fill_opaque.Goals as goal
 
 pub returns : goal.returns

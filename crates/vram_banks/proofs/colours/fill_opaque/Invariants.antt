@@ -1,4 +1,4 @@
-use Rattle.vram_banks.proofs.Words.{ℕ, ◌≡◌, ◌<◌, ◌+◌, ◌*◌, get_or, opaque_pixel, palette_colour}
+use Rattle.vram_banks.proofs.Words.{get_or, opaque_pixel, palette_colour, ℕ, ◌*◌, ◌+◌, ◌<◌, ◌≡◌}
 use Rattle.vram_banks.proofs.colours.fill_opaque.Given as goal
 
 abbrev pub invariant-loop-k : goal.invariant-loop-k

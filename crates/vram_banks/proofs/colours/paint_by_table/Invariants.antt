@@ -1,4 +1,4 @@
-use Rattle.vram_banks.proofs.Words.{ℕ, ◌≡◌, ◌<◌, get_or, flipped}
+use Rattle.vram_banks.proofs.Words.{flipped, get_or, ℕ, ◌<◌, ◌≡◌}
 use Rattle.vram_banks.proofs.colours.paint_by_table.Given as goal
 
 abbrev pub invariant-loop-i : goal.invariant-loop-i

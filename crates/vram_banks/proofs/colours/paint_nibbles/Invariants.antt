@@ -1,4 +1,4 @@
-use Rattle.std.proofs.Common.{ℕ, ◌≡◌, ◌<◌, ◌-◌, ◌*◌, ◌/◌, ◌%◌, ◌^◌, get_or}
+use Rattle.vram_banks.proofs.Words.{get_or, ℕ, ◌%◌, ◌*◌, ◌-◌, ◌/◌, ◌<◌, ◌^◌, ◌≡◌}
 use Rattle.vram_banks.proofs.colours.paint_nibbles.Given as goal
 
 abbrev pub invariant-loop-i : goal.invariant-loop-i

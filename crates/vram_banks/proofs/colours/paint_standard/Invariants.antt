@@ -1,4 +1,4 @@
-use Rattle.vram_banks.proofs.Words.{ℕ, ◌≡◌, ◌<◌, ◌+◌, get_or, indexed_pixel, palette_colour, flipped}
+use Rattle.vram_banks.proofs.Words.{flipped, get_or, indexed_pixel, palette_colour, ℕ, ◌+◌, ◌<◌, ◌≡◌}
 use Rattle.vram_banks.proofs.colours.paint_standard.Given as goal
 
 abbrev pub invariant-loop-i : goal.invariant-loop-i

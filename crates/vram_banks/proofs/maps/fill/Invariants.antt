@@ -1,4 +1,4 @@
-use Rattle.vram_banks.proofs.Words.{◌≡◌, length, ArePages}
+use Rattle.vram_banks.proofs.Words.{ArePages, length, ◌≡◌}
 use Rattle.vram_banks.proofs.maps.fill.Given as goal
 
 abbrev pub invariant-loop-k : goal.invariant-loop-k

@@ -1,4 +1,4 @@
-use Rattle.vram_banks.specs.paging.Pages.{IsPageBelow, cell_among}
+use Rattle.vram_banks.proofs.Words.{IsPageBelow, cell_among}
 use Rattle.vram_banks.proofs.maps.page_at.Given as goal
 
 abbrev pub invariant-loop-bank : goal.invariant-loop-bank

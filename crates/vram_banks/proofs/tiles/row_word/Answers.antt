@@ -1,4 +1,4 @@
-use Rattle.vram_banks.proofs.Words.{ℕ, ◌≡◌, ◌-◌, ◌*◌, ◌/◌, ◌%◌, ◌^◌, ◌∙◌, ap, arith, value_by, Word, vram_byte}
+use Rattle.vram_banks.proofs.Words.{Word, ap, arith, value_by, vram_byte, ℕ, ◌%◌, ◌*◌, ◌-◌, ◌/◌, ◌^◌, ◌∙◌, ◌≡◌}
 use Rattle.vram_banks.proofs.WordNibbles.{word_nibble}
 use Rattle.vram_banks.proofs.tiles.row_word.Goals as goal
 

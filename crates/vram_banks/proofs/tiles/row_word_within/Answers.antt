@@ -1,5 +1,4 @@
-use Rattle.vram_banks.proofs.Words.{ℕ, ◌≡◌, ◌+◌, ◌*◌, ◌/◌, ◌%◌, ◌^◌, ◌∙◌, ap, get_or, arith, vram_byte}
-use Rattle.vram_banks.specs.Tiles.{nibble_at}
+use Rattle.vram_banks.proofs.Words.{ap, arith, get_or, nibble_at, vram_byte, ℕ, ◌%◌, ◌*◌, ◌+◌, ◌/◌, ◌^◌, ◌∙◌, ◌≡◌}
 use Rattle.vram_banks.proofs.WordNibbles.{word_nibble}
 use Rattle.vram_banks.proofs.tiles.row_word_within.Goals as goal
 

@@ -1,9 +1,9 @@
-use Rattle.ds_map.proofs.Words.{ℕ, ◌≡◌, false, Option, IsSome, sym, ◌∙◌, ap, subst, Stop, dma_due, map_refusal, map_written, is_guarded, MapState}
-use Rattle.ds_map.proofs.Words.{unit_refusal, unit_taken, unit_waits, IoState, channel_moved, channel_put_back, io_of, before_move}
+use Rattle.ds_map.proofs.Words.{BeforeMove, IoState, IsSome, MapState, Option, Stop, ap, before_move, channel_moved, channel_put_back, dma_due, false}
+use Rattle.ds_map.proofs.Words.{io_of, map_refusal, map_written, subst, sym, unit_refusal, unit_taken, unit_waits, ℕ, ◌∙◌, ◌≡◌}
+use Rattle.ds_map.specs.Guards.{is_guarded}
 use Rattle.ds_map.specs.MapLaws.{map_seen}
 use Rattle.ds_map.proofs.Guards.{unit_has_room}
 use Rattle.ds_map.proofs.TakenBack.{put_back_is, still_due}
-use Rattle.ds_ports.specs.ProcessorIo.{BeforeMove}
 use Rattle.ds_map.proofs.maps.Map.move_unit.Goals as goal
 
 -- the channel is still due after the read

@@ -1,4 +1,4 @@
-use Rattle.ds_ports.proofs.Words.{◌∙◌, ap, sym, subst, IsGx, IoState}
+use Rattle.ds_ports.proofs.Words.{IoState, IsGx, ap, subst, sym, ◌∙◌}
 use Rattle.ds_ports.proofs.Wholes.{command_put}
 use Rattle.ds_ports.proofs.io.Io.put_part.Goals as goal
 

@@ -1,4 +1,4 @@
-use Rattle.ds_ports.proofs.Words.{◌≡◌, true, sym, ◌∙◌, ap, subst, first_acting_io_due, IoState, is_settled}
+use Rattle.ds_ports.proofs.Words.{IoState, ap, first_acting_io_due, is_settled, subst, sym, true, ◌∙◌, ◌≡◌}
 use Rattle.ds_ports.proofs.Dues.{received_moves_none}
 use Rattle.ds_ports.proofs.Settled.{received_settled}
 use Rattle.ds_ports.proofs.io.Io.receive.Goals as goal

@@ -1,4 +1,4 @@
-use Rattle.ds_ports.proofs.Words.{◌≡◌, true, sym, ◌∙◌, ap, subst, first_acting_io_due, IoState, is_settled}
+use Rattle.ds_ports.proofs.Words.{IoState, ap, first_acting_io_due, is_settled, subst, sym, true, ◌∙◌, ◌≡◌}
 use Rattle.ds_ports.proofs.Dues.{sent_moves_none}
 use Rattle.ds_ports.proofs.Settled.{sent_settled}
 use Rattle.ds_ports.proofs.io.Io.send.Goals as goal

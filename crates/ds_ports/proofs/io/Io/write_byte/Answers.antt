@@ -1,4 +1,4 @@
-use Rattle.std.proofs.Common.{sym}
+use Rattle.ds_ports.proofs.Words.{sym}
 use Rattle.ds_ports.proofs.Grows.{byte_room}
 use Rattle.ds_ports.proofs.io.Io.write_byte.Goals as goal
 

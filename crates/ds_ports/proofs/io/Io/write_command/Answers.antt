@@ -1,4 +1,4 @@
-use Rattle.ds_ports.proofs.Words.{◌≡◌, true, refl, sym, ◌∙◌, ap, first_acting_io_due, is_silent, is_settled, GxCommand}
+use Rattle.ds_ports.proofs.Words.{GxCommand, ap, first_acting_io_due, is_settled, is_silent, refl, sym, true, ◌∙◌, ◌≡◌}
 use Rattle.ds_ports.proofs.Silent.{geometry_written_moves_none, geometry_written_settles_none}
 use Rattle.ds_ports.proofs.io.Io.write_command.Goals as goal
 

@@ -1,4 +1,4 @@
-use Rattle.ds_ports.proofs.Words.{sym, ◌∙◌, ap, Half, whole_in}
+use Rattle.ds_ports.proofs.Words.{Half, ap, sym, whole_in, ◌∙◌}
 use Rattle.ds_ports.proofs.Grows.{half_room}
 use Rattle.ds_ports.proofs.io.Io.write_half.Goals as goal
 

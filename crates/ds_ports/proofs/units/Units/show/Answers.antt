@@ -1,4 +1,4 @@
-use Rattle.ds_ports.proofs.Words.{◌≡◌, sym, ◌∙◌, subst, IoState, video_done}
+use Rattle.ds_ports.proofs.Words.{IoState, subst, sym, video_done, ◌∙◌, ◌≡◌}
 use Rattle.ds_ports.specs.contracts.units.Units.{the_view}
 use Rattle.ds_ports.proofs.Shows.{show_leaves, stop_leaves}
 use Rattle.ds_ports.proofs.units.Units.show.Goals as goal

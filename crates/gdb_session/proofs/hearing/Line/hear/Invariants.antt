@@ -1,4 +1,4 @@
-use Rattle.std.proofs.Common.{◌≡◌}
+use Rattle.gdb_session.proofs.Words.{◌≡◌}
 use Rattle.gdb_session.proofs.hearing.Line.hear.Given as goal
 
 abbrev pub invariant-bytes : goal.invariant-bytes

@@ -1,5 +1,4 @@
-use Rattle.std.proofs.Common.{Contains}
-use Rattle.std.specs.Prelude.{IfSome}
+use Rattle.gdb_session.proofs.Words.{Contains, IfSome}
 use Rattle.gdb_session.proofs.saves.Saves.before.Given as goal
 
 abbrev pub invariant-saves : goal.invariant-saves

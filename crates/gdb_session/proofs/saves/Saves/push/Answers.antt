@@ -1,5 +1,4 @@
-use Rattle.std.proofs.Common.{All, Contains, ap, subst, sym, ◌∙◌}
-use Rattle.gdb_session.specs.declared.saves.Saves.{Saves}
+use Rattle.gdb_session.proofs.Words.{All, Contains, Saves, ap, subst, sym, ◌∙◌}
 use Rattle.gdb_session.proofs.Kept.{all_there, there_before, there_now}
 use Rattle.gdb_session.proofs.saves.Saves.push.Goals.{else-len-ge-MOST_SAVES, then-len-ge-MOST_SAVES}
 use Rattle.gdb_session.proofs.saves.Saves.push.Goals as goal

@@ -1,5 +1,4 @@
-use Rattle.std.proofs.Common.{All, Contains, ap, subst, sym, ◌∙◌}
-use Rattle.gdb_session.specs.declared.saves.Saves.{Saves}
+use Rattle.gdb_session.proofs.Words.{All, Contains, Saves, ap, subst, sym, ◌∙◌}
 use Rattle.gdb_session.proofs.Kept.{all_but, all_there}
 use Rattle.gdb_session.proofs.saves.Saves.thin.Goals.{else-place-len, then-place-len}
 use Rattle.gdb_session.proofs.saves.Saves.thin.Goals as goal

@@ -1,4 +1,4 @@
-use Rattle.std.proofs.Common.{All, Contains}
+use Rattle.gdb_session.proofs.Words.{All, Contains}
 use Rattle.gdb_session.proofs.saves.Saves.thin.Given as goal
 
 abbrev pub invariant-places : goal.invariant-places

@@ -1,5 +1,4 @@
-use Rattle.std.proofs.Common.{subst}
-use Rattle.gdb_session.specs.Tapes.{ComesFromBoot, TapeState, boot_of}
+use Rattle.gdb_session.proofs.Words.{ComesFromBoot, TapeState, boot_of, subst}
 use Rattle.gdb_session.proofs.tapes.Tape.laws.Goals as goal
 
 pub returns : goal.returns

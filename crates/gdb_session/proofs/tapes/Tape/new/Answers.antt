@@ -1,5 +1,4 @@
-use Rattle.std.proofs.Common.{ap, ◌∙◌}
-use Rattle.run_ahead.specs.Consoles.{ConsoleState}
+use Rattle.gdb_session.proofs.Words.{ConsoleState, ap, ◌∙◌}
 use Rattle.gdb_session.proofs.Kept.{begins, begins_boot}
 use Rattle.gdb_session.proofs.tapes.Tape.new.Goals as goal
 

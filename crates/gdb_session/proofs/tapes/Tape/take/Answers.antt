@@ -1,7 +1,4 @@
-use Rattle.std.proofs.Common.{ℕ, List, ap, subst, sym, ◌∙◌, arith}
-use Rattle.ds_machine.specs.Booted.{machine_booted}
-use Rattle.run_ahead.specs.Consoles.{ConsoleState}
-use Rattle.gdb_session.specs.Tapes.{ComesFromBoot, boot_of}
+use Rattle.gdb_session.proofs.Words.{ComesFromBoot, ConsoleState, List, ap, arith, boot_of, machine_booted, subst, sym, ℕ, ◌∙◌}
 use Rattle.gdb_session.proofs.Kept.{back_file, comes_again, comes_back}
 use Rattle.gdb_session.proofs.tapes.Tape.take.Goals.{in-Err, in-Ok-go_back}
 use Rattle.gdb_session.proofs.tapes.Tape.take.Goals as goal

@@ -1,5 +1,4 @@
-use Rattle.std.proofs.Common.{ap, ◌∙◌}
-use Rattle.gdb_session.specs.Tapes.{boot_of}
+use Rattle.gdb_session.proofs.Words.{ap, boot_of, ◌∙◌}
 use Rattle.gdb_session.proofs.tapes.TapeDeck.go_to.Goals.{else-not-is_there-via-else-not-is_there, else-not-is_there-via-then-not-is_there+else-not-take}
 use Rattle.gdb_session.proofs.tapes.TapeDeck.go_to.Goals as goal
 

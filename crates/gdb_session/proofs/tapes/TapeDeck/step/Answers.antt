@@ -1,6 +1,4 @@
-use Rattle.std.proofs.Common.{ap, ◌∙◌}
-use Rattle.gdb_session.specs.Tapes.{boot_of}
-use Rattle.gdb_session.specs.contracts.tapes.Tape.{the_view as tape_view}
+use Rattle.gdb_session.proofs.Words.{ap, boot_of, tape_view, ◌∙◌}
 use Rattle.gdb_session.proofs.Kept.{goes_on, same_boot}
 use Rattle.gdb_session.proofs.tapes.TapeDeck.step.Goals as goal
 

@@ -1,8 +1,4 @@
-use Rattle.std.proofs.Common.{ℕ, List, ap, ◌∙◌}
-use Rattle.std.proofs.lemmas.List.{map-id}
-use Rattle.ds_state.specs.Formats.{bytes_written, written_each}
-use Rattle.gx_fifo.specs.declared.entries.GxEntry.{GxEntry}
-use Rattle.gx_fifo.specs.Saved.{entry_format}
+use Rattle.gx_fifo.proofs.Words.{GxEntry, List, ap, bytes_written, entry_format, map-id, written_each, ℕ, ◌∙◌}
 use Rattle.gx_fifo.proofs.Walks.{in_pieces}
 use Rattle.gx_fifo.proofs.entries.Entries.put.Goals as goal
 

@@ -1,4 +1,4 @@
-use Rattle.std.proofs.Common.{◌≡◌, suc, ◌-◌, sym, ◌∙◌, arith}
+use Rattle.gx_fifo.proofs.Words.{arith, suc, sym, ◌-◌, ◌∙◌, ◌≡◌}
 use Rattle.gx_fifo.proofs.Heads.{next_goes, none_goes, rest_goes}
 use Rattle.gx_fifo.proofs.entries.Entries.take_words.Goals as goal
 use Rattle.gx_fifo.proofs.entries.Entries.take_words.Goals.{in-Some, in-None}

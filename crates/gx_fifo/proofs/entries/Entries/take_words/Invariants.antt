@@ -1,6 +1,5 @@
-use Rattle.std.proofs.Common.{◌≡◌, ◌≤◌, ◌++◌, ◌+◌, drop, map, take}
+use Rattle.gx_fifo.proofs.Words.{GxEntry, drop, map, take, ◌++◌, ◌+◌, ◌≡◌, ◌≤◌}
 use Rattle.arrayvec.specs.ArrayVec.{array_vec_len}
-use Rattle.gx_fifo.specs.declared.entries.GxEntry.{GxEntry}
 use Rattle.gx_fifo.proofs.entries.Entries.take_words.Given as goal
 
 -- what is still wanted of the entries that are there gives what all gives at the start

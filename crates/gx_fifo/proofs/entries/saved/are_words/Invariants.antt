@@ -1,4 +1,4 @@
-use Rattle.std.proofs.Common.{ℕ, ◌<◌, ◌^◌, slice_index_or}
+use Rattle.gx_fifo.proofs.Words.{slice_index_or, ℕ, ◌<◌, ◌^◌}
 use Rattle.gx_fifo.proofs.Walks.{no_entry}
 use Rattle.gx_fifo.proofs.entries.saved.are_words.Given as goal
 

@@ -1,8 +1,5 @@
-use Rattle.std.proofs.Common.{◌∷◌, [], arith}
-use Rattle.std.proofs.lemmas.List.{length-append}
-use Rattle.ds_state.specs.Reading.{read_format, read_list}
+use Rattle.gx_fifo.proofs.Words.{[], arith, entry_format, length-append, read_format, read_list, ◌∷◌}
 use Rattle.ds_state.proofs.Loop.{goes_on}
-use Rattle.gx_fifo.specs.Saved.{entry_format}
 use Rattle.gx_fifo.proofs.entries.saved.take_entries.Goals as goal
 
 pub loop-preserved : goal.loop-preserved

@@ -1,7 +1,5 @@
-use Rattle.std.proofs.Common.{◌≡◌, ◌-◌, length}
-use Rattle.ds_state.specs.Reading.{read_format, read_list}
+use Rattle.gx_fifo.proofs.Words.{entry_format, length, read_format, read_list, ◌-◌, ◌≡◌}
 use Rattle.ds_state.specs.Loops.{with_front}
-use Rattle.gx_fifo.specs.Saved.{entry_format}
 use Rattle.gx_fifo.proofs.entries.saved.take_entries.Given as goal
 
 abbrev pub invariant-loop : goal.invariant-loop

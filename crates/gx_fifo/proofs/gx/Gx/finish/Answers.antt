@@ -1,5 +1,4 @@
-use Rattle.std.proofs.Common.{◌≡◌, ◌∙◌, false, is_some, sym}
-use Rattle.gx_fifo.specs.Entries.{asks_for_swap, complete_command}
+use Rattle.gx_fifo.proofs.Words.{asks_for_swap, complete_command, false, is_some, sym, ◌∙◌, ◌≡◌}
 use Rattle.gx_fifo.proofs.Dues.{begun_is}
 use Rattle.gx_fifo.proofs.Parameters.{parameter_kept}
 use Rattle.gx_fifo.proofs.SavedLaws.{none_waits}

@@ -1,4 +1,4 @@
-use Rattle.std.proofs.Common.{refl, arith}
+use Rattle.gx_fifo.proofs.Words.{arith, refl}
 use Rattle.gx_fifo.proofs.Parameters.{none_at_boot}
 use Rattle.gx_fifo.proofs.gx.Gx.new.Goals as goal
 

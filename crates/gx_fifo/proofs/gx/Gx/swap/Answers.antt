@@ -1,6 +1,6 @@
+use Rattle.gx_fifo.proofs.Words.{false}
 use Rattle.gx_fifo.proofs.Dues.{begun_is}
 use Rattle.gx_fifo.proofs.Parameters.{none_swapped}
-use Rattle.std.proofs.Common.{false}
 use Rattle.gx_fifo.proofs.gx.Gx.swap.Goals as goal
 
 pub invariant_of-self : goal.invariant_of-self

@@ -1,5 +1,4 @@
-use Rattle.std.proofs.Common.{subst}
-use Rattle.ds_state.specs.Reading.{GivesIn, read_format}
+use Rattle.gx_fifo.proofs.Words.{GivesIn, read_format, subst}
 use Rattle.gx_fifo.specs.Saved.{gx_format_by, holds_by}
 use Rattle.gx_fifo.specs.declared.gx.saved.Asked.{Asked}
 use Rattle.gx_fifo.proofs.gx.Gx.unpack.Goals as goal

@@ -1,6 +1,4 @@
-use Rattle.std.proofs.Common.{◌≡◌, ◌∙◌, Bool, is_some, sym, ap, arith}
-use Rattle.std.specs.Prelude.{◌&&◌, not}
-use Rattle.gx_fifo.specs.Entries.{complete_command}
+use Rattle.gx_fifo.proofs.Words.{Bool, ap, arith, complete_command, is_some, not, sym, ◌&&◌, ◌∙◌, ◌≡◌}
 use Rattle.gx_fifo.proofs.SavedLaws.{due_there, may_be_due, may_be_none}
 use Rattle.gx_fifo.proofs.gx.Gx.unpack_by.Goals as goal
 

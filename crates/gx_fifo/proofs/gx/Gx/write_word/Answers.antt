@@ -1,5 +1,4 @@
-use Rattle.std.proofs.Common.{ap, sym}
-use Rattle.gx_fifo.specs.PackedWords.{word_taken}
+use Rattle.gx_fifo.proofs.Words.{ap, sym, word_taken}
 use Rattle.gx_fifo.specs.GxStates.{GxState}
 use Rattle.gx_fifo.proofs.Growing.{word_grows, grows_by}
 use Rattle.gx_fifo.proofs.Dues.{due_kept}

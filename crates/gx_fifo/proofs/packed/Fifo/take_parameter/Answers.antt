@@ -1,8 +1,5 @@
-use Rattle.std.proofs.Common.{◌≡◌, ◌+◌, ◌/◌, ◌≤◌, ◌^◌, ◌∷◌, ◌++◌, [], Some, nat_le, false, length, ap, ◌∙◌, arith}
-use Rattle.std.proofs.lemmas.List.{length-append}
-use Rattle.gx_matrix.specs.CommandTable.{command_row}
-use Rattle.gx_fifo.specs.Entries.{most_entries}
-use Rattle.gx_fifo.specs.PackedWords.{FifoState, first_command, packed_commands, with_word}
+use Rattle.gx_fifo.proofs.Words.{FifoState, Some, [], ap, arith, command_row, false, first_command, length, length-append, most_entries, nat_le}
+use Rattle.gx_fifo.proofs.Words.{packed_commands, with_word, ◌++◌, ◌+◌, ◌/◌, ◌^◌, ◌∙◌, ◌∷◌, ◌≡◌, ◌≤◌}
 use Rattle.gx_fifo.proofs.Growing.{still_given}
 use Rattle.gx_fifo.proofs.Unpacks.{room_behind}
 use Rattle.gx_fifo.proofs.packed.Fifo.take_parameter.Goals as goal

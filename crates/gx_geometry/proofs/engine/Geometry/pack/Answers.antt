@@ -1,6 +1,4 @@
-use Rattle.std.proofs.Common.{rules, ◌≡◌, sym, ◌∙◌}
-use Rattle.ds_state.specs.Formats.{bytes_written}
-use Rattle.gx_geometry.specs.SavedKept.{geometry_parts}
+use Rattle.gx_geometry.proofs.Words.{bytes_written, geometry_parts, rules, sym, ◌∙◌, ◌≡◌}
 use Rattle.gx_geometry.proofs.SavedParts.{geometry_writes}
 use Rattle.gx_geometry.proofs.engine.Geometry.pack.Goals as goal
 

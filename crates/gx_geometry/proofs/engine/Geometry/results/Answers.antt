@@ -1,4 +1,4 @@
-use Rattle.std.proofs.Common.{◌∙◌, ap, subst, sym}
+use Rattle.gx_geometry.proofs.Words.{ap, subst, sym, ◌∙◌}
 use Rattle.gx_geometry.specs.States.{GeometryState, IsOverflowSince}
 use Rattle.gx_geometry.specs.declared.results.Results.{Results}
 use Rattle.gx_geometry.proofs.Growing.{open_lists}

@@ -1,4 +1,4 @@
-use Rattle.std.proofs.Common.{◌≡◌, ap}
+use Rattle.gx_geometry.proofs.Words.{ap, ◌≡◌}
 use Rattle.gx_geometry.specs.States.{GeometryState}
 use Rattle.gx_geometry.proofs.Growing.{open_lists}
 use Rattle.gx_geometry.proofs.engine.Geometry.swap.Goals as goal

@@ -1,4 +1,4 @@
-use Rattle.std.proofs.Common.{sym}
+use Rattle.gx_geometry.proofs.Words.{sym}
 use Rattle.gx_geometry.proofs.Parameters.{runs_on}
 use Rattle.gx_geometry.proofs.Recent.{told_given, told_kept}
 use Rattle.gx_geometry.proofs.engine.Geometry.take_command.Goals as goal

@@ -1,6 +1,4 @@
-use Rattle.std.proofs.Common.{◌≡◌, drop}
-use Rattle.ds_state.specs.Formats.{bytes_written, written_each}
-use Rattle.gx_geometry.specs.Saved.{vertex_format}
+use Rattle.gx_geometry.proofs.Words.{bytes_written, drop, vertex_format, written_each, ◌≡◌}
 use Rattle.gx_geometry.proofs.lists.saved.put_vertices.Given as goal
 
 abbrev pub invariant-loop-vertex : goal.invariant-loop-vertex

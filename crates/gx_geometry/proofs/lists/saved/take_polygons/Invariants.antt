@@ -1,8 +1,4 @@
-use Rattle.std.proofs.Common.{◌≡◌, ◌-◌, length}
-use Rattle.ds_state.specs.Reading.{read_format, read_list}
-use Rattle.ds_state.specs.Loops.{with_front}
-use Rattle.gx_geometry.specs.BoundLaws.{HavePalettes, HaveShapes}
-use Rattle.gx_geometry.specs.Saved.{polygon_format}
+use Rattle.gx_geometry.proofs.Words.{HavePalettes, HaveShapes, length, polygon_format, read_format, read_list, with_front, ◌-◌, ◌≡◌}
 use Rattle.gx_geometry.proofs.lists.saved.take_polygons.Given as goal
 
 abbrev pub invariant-loop : goal.invariant-loop

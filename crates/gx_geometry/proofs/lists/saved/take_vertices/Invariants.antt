@@ -1,8 +1,4 @@
-use Rattle.std.proofs.Common.{◌≡◌, ◌-◌, length}
-use Rattle.ds_state.specs.Reading.{read_format, read_list}
-use Rattle.ds_state.specs.Loops.{with_front}
-use Rattle.gx_geometry.specs.BoundLaws.{HaveColours}
-use Rattle.gx_geometry.specs.Saved.{vertex_format}
+use Rattle.gx_geometry.proofs.Words.{HaveColours, length, read_format, read_list, vertex_format, with_front, ◌-◌, ◌≡◌}
 use Rattle.gx_geometry.proofs.lists.saved.take_vertices.Given as goal
 
 abbrev pub invariant-loop : goal.invariant-loop

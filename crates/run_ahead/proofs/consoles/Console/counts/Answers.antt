@@ -1,4 +1,4 @@
-use Rattle.run_ahead.proofs.Words.{◌≡◌, ap, arith, ConsoleState}
+use Rattle.run_ahead.proofs.Words.{ConsoleState, ap, arith, ◌≡◌}
 use Rattle.run_ahead.proofs.consoles.Console.counts.Goals as goal
 
 pub returns-clause-bound : goal.returns-clause-bound

@@ -1,4 +1,4 @@
-use Rattle.run_ahead.proofs.Words.{◌≤◌, subst, arith, Ends, ConsoleState, open_of, AreAtOnce}
+use Rattle.run_ahead.proofs.Words.{AreAtOnce, ConsoleState, Ends, arith, open_of, subst, ◌≤◌}
 use Rattle.run_ahead.proofs.StepTurns.{at_once}
 use Rattle.run_ahead.proofs.consoles.Console.ends.Goals as goal
 

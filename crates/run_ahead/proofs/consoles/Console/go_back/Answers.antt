@@ -1,4 +1,4 @@
-use Rattle.run_ahead.proofs.Words.{ℕ, ◌≡◌, ◌≤◌, List, refl, sym, ◌∙◌, ap, subst, arith, IsRunning, MachineState, counts_of, with_file, counts_add_up}
+use Rattle.run_ahead.proofs.Words.{IsRunning, List, MachineState, ap, arith, counts_add_up, counts_of, refl, subst, sym, with_file, ℕ, ◌∙◌, ◌≡◌, ◌≤◌}
 use Rattle.run_ahead.proofs.consoles.Console.go_back.Goals as goal
 
 pub invariant_of-self : goal.invariant_of-self

@@ -1,5 +1,4 @@
-use Rattle.run_ahead.proofs.Words.{◌≡◌, ◌≤◌, ◌∙◌, length, ap, subst, arith, IsSound, ConsoleState}
-use Rattle.run_ahead.specs.Consoles.{AreWithin}
+use Rattle.run_ahead.proofs.Words.{AreWithin, ConsoleState, IsSound, ap, arith, length, subst, ◌∙◌, ◌≡◌, ◌≤◌}
 use Rattle.run_ahead.proofs.consoles.Console.laws.Goals as goal
 
 pub returns-clause-sound : goal.returns-clause-sound

@@ -1,4 +1,4 @@
-use Rattle.run_ahead.proofs.Words.{refl, sym, subst, arith, IsRunning, IsWithinTick, with_file, counts_add_up}
+use Rattle.run_ahead.proofs.Words.{IsRunning, IsWithinTick, arith, counts_add_up, refl, subst, sym, with_file}
 use Rattle.run_ahead.proofs.consoles.Console.new.Goals as goal
 
 pub invariant_of-result : goal.invariant_of-result

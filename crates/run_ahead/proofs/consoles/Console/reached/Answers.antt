@@ -1,4 +1,4 @@
-use Rattle.run_ahead.proofs.Words.{subst, ConsoleState}
+use Rattle.run_ahead.proofs.Words.{ConsoleState, subst}
 use Rattle.ds_machine.specs.Looks.{IsReached}
 use Rattle.run_ahead.proofs.consoles.Console.reached.Goals as goal
 

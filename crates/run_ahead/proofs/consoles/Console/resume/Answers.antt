@@ -1,4 +1,4 @@
-use Rattle.run_ahead.proofs.Words.{ℕ, List, ◌≤◌, refl, sym, subst, arith, IsRunning, MachineState, with_file, counts_of, counts_add_up}
+use Rattle.run_ahead.proofs.Words.{IsRunning, List, MachineState, arith, counts_add_up, counts_of, refl, subst, sym, with_file, ℕ, ◌≤◌}
 use Rattle.run_ahead.proofs.consoles.Console.resume.Goals as goal
 
 pub invariant_of-result : goal.invariant_of-result

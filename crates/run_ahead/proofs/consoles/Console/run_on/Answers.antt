@@ -1,6 +1,5 @@
-use Rattle.run_ahead.proofs.Words.{Option, ◌∙◌, ap, refl, sym, subst, arith, IsSome, ConsoleState, turns_remaining}
+use Rattle.run_ahead.proofs.Words.{ConsoleState, IsSome, Option, TurnsUpTo, ap, arith, refl, subst, sym, turns_remaining, ◌∙◌}
 use Rattle.ds_machine.specs.declared.next_events.First.{First}
-use Rattle.run_ahead.specs.TurnLaws.{TurnsUpTo}
 use Rattle.run_ahead.specs.declared.turns.Turned as turned
 use Rattle.run_ahead.specs.declared.turns.Turned.TheVariants as answers
 use Rattle.run_ahead.proofs.RunningOn.{raised_leaves, ran_first, ran_more, up_to_counts, up_to_raised}

@@ -1,4 +1,4 @@
-use Rattle.run_ahead.proofs.Words.{◌≤◌, AreAtOnce, RanOn, turns_remaining}
+use Rattle.run_ahead.proofs.Words.{AreAtOnce, RanOn, turns_remaining, ◌≤◌}
 use Rattle.run_ahead.proofs.consoles.Console.run_on.Given as goal
 
 -- the turns so far ran, no more of them are left than before, and it is known by what the next is found that can be taken at once

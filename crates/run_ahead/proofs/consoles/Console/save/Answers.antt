@@ -1,5 +1,6 @@
-use Rattle.run_ahead.proofs.Words.{ℕ, ◌≡◌, ◌≤◌, ◌*◌, ◌^◌, List, None, sym, ◌∙◌, ap, subst, HasMachineBounds, dues_of, IsSound, counts_of}
-use Rattle.run_ahead.proofs.Words.{IsWithinTick, IsOver, ConsoleState, IsReadBack, head_of, state_bytes}
+use Rattle.run_ahead.proofs.Words.{ConsoleState, HasMachineBounds, IsOver, IsSound, IsWithinTick, List, None, ap, counts_of, dues_of, subst, sym, ℕ}
+use Rattle.run_ahead.proofs.Words.{◌*◌, ◌^◌, ◌∙◌, ◌≡◌, ◌≤◌}
+use Rattle.run_ahead.specs.Saved.{IsReadBack, head_of, state_bytes}
 use Rattle.run_ahead.proofs.SavedStates.{kept_back, written_whole}
 use Rattle.run_ahead.proofs.consoles.Console.save.Goals as goal
 

@@ -1,7 +1,6 @@
-use Rattle.run_ahead.proofs.Words.{ℕ, ◌≡◌, ◌+◌, ◌⊎◌, [], ◌∷◌, Some, None, true≢false, refl, sym, ◌∙◌, ap, subst, arith, none-some, IsOver, last_limit}
-use Rattle.run_ahead.proofs.Words.{dues_of, next_shown, counts_add_up, limits_rise, ConsoleState, open_of, MeetsStop, TakesEvent, TakesQuiet}
-use Rattle.run_ahead.proofs.Words.{TakesStretch, one_more_turn, run_to}
-use Rattle.std.proofs.Common.{IsSome, is_some}
+use Rattle.run_ahead.proofs.Words.{ConsoleState, IsOver, IsSome, MeetsStop, None, Some, TakesEvent, TakesQuiet, TakesStretch, [], ap, arith}
+use Rattle.run_ahead.proofs.Words.{counts_add_up, dues_of, is_some, last_limit, limits_rise, next_shown, none-some, one_more_turn, open_of, refl}
+use Rattle.run_ahead.proofs.Words.{run_to, subst, sym, true≢false, ℕ, ◌+◌, ◌∙◌, ◌∷◌, ◌≡◌, ◌⊎◌}
 use Rattle.run_ahead.proofs.StepTurns.{frame_taken, made_taken, one_fits, over_all, over_from, stopped_counts, stopped_few}
 use Rattle.run_ahead.proofs.consoles.Console.step.Goals as goal
 use Rattle.run_ahead.proofs.consoles.Console.step.Goals.{else-until-acting-via-then-until-acting+else-not-is_behind, else-until-acting-via-else-until-acting}

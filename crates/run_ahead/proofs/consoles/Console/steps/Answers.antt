@@ -1,4 +1,4 @@
-use Rattle.run_ahead.proofs.Words.{◌∙◌, ap, processor_of, ConsoleState}
+use Rattle.run_ahead.proofs.Words.{ConsoleState, ap, processor_of, ◌∙◌}
 use Rattle.run_ahead.proofs.consoles.Console.steps.Goals as goal
 
 pub returns : goal.returns

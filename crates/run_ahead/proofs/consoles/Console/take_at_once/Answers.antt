@@ -1,6 +1,6 @@
-use Rattle.run_ahead.proofs.Words.{◌≡◌, ◌+◌, ◌⊎◌, max, [], Option, None, refl, sym, ◌∙◌, ap, subst, arith, none-some, LeftOut, last_limit, HasEnds}
-use Rattle.run_ahead.proofs.Words.{HasLimit, IsLeastBelow, counts_add_up, limits_rise, ConsoleState, open_of, TookStretch, TakesEvent, TakesQuiet}
-use Rattle.run_ahead.proofs.Words.{TakesStretch, one_more_turn, run_to}
+use Rattle.run_ahead.proofs.Words.{ConsoleState, HasEnds, HasLimit, IsLeastBelow, LeftOut, None, Option, TakesEvent, TakesQuiet, TakesStretch}
+use Rattle.run_ahead.proofs.Words.{TookStretch, [], ap, arith, counts_add_up, last_limit, limits_rise, max, none-some, one_more_turn, open_of, refl}
+use Rattle.run_ahead.proofs.Words.{run_to, subst, sym, ◌+◌, ◌∙◌, ◌≡◌, ◌⊎◌}
 use Rattle.run_ahead.proofs.StepTurns.{is_stop, is_stretch, made_taken, one_fits, StopsNow, ran_is, stopped_counts, stopped_few, stops_now}
 use Rattle.run_ahead.proofs.consoles.Console.take_at_once.Goals as goal
 

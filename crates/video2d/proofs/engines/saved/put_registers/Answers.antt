@@ -1,4 +1,4 @@
-use Rattle.video2d.proofs.Words.{ℕ, List, sym, ap, arith, Format, bytes_written}
+use Rattle.video2d.proofs.Words.{Format, List, ap, arith, bytes_written, sym, ℕ}
 use Rattle.video2d.proofs.SavedWalks.{walked}
 use Rattle.video2d.proofs.engines.saved.put_registers.Goals as goal
 

@@ -1,4 +1,4 @@
-use Rattle.video2d.proofs.Words.{◌≡◌, ◌≤◌, ◌-◌, ◌*◌, zeroes, bytes_written, engine_bytes, ports_format}
+use Rattle.video2d.proofs.Words.{bytes_written, engine_bytes, ports_format, zeroes, ◌*◌, ◌-◌, ◌≡◌, ◌≤◌}
 use Rattle.video2d.proofs.SavedWalks.{registers_from}
 use Rattle.video2d.proofs.engines.saved.put_registers.Given as goal
 

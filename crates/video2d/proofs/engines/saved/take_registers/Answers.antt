@@ -1,4 +1,4 @@
-use Rattle.video2d.proofs.Words.{ℕ, List, sym, ◌∙◌, ap, arith, err_from_is_err_and, zeroes, Format, read_format, ports_format}
+use Rattle.video2d.proofs.Words.{Format, List, ap, arith, err_from_is_err_and, ports_format, read_format, sym, zeroes, ℕ, ◌∙◌}
 use Rattle.video2d.proofs.SavedLoops.{take_fails, take_on, take_past}
 use Rattle.video2d.proofs.SavedWalks.{walked}
 use Rattle.video2d.proofs.engines.saved.take_registers.Goals as goal

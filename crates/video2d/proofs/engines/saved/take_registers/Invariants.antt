@@ -1,4 +1,4 @@
-use Rattle.video2d.proofs.Words.{◌≡◌, ◌≤◌, ◌-◌, ◌*◌, read_format, ports_format}
+use Rattle.video2d.proofs.Words.{ports_format, read_format, ◌*◌, ◌-◌, ◌≡◌, ◌≤◌}
 use Rattle.video2d.proofs.SavedWalks.{registers_from}
 use Rattle.video2d.proofs.engines.saved.take_registers.Given as goal
 

@@ -1,6 +1,5 @@
-use Rattle.video2d.proofs.Words.{List, ℕ, ◌≡◌, ◌∙◌, ap, length, sym}
+use Rattle.video2d.proofs.Words.{FramesState, List, ap, frame_of, length, sym, ℕ, ◌∙◌, ◌≡◌}
 use Rattle.video2d.proofs.FrameLemmas.{frame_long, none_fresh}
-use Rattle.video2d.specs.rows.Frames.{FramesState, frame_of}
 use Rattle.video2d.proofs.frames.Frames.finish.Goals as goal
 
 pub returns : goal.returns

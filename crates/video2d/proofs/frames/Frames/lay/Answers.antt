@@ -1,8 +1,5 @@
-use Rattle.video2d.proofs.Words.{List, ℕ, ◌≡◌, ◌/◌, ◌∙◌, ap, length, slice_set, sym, true}
-use Rattle.std.proofs.Common.{rules}
+use Rattle.video2d.proofs.Words.{FramesState, List, ap, frame_of, length, line_laid, rules, slice_set, sym, true, ℕ, ◌/◌, ◌∙◌, ◌≡◌}
 use Rattle.video2d.proofs.FrameLemmas.{laid}
-use Rattle.video2d.specs.Pictures.{line_laid}
-use Rattle.video2d.specs.rows.Frames.{FramesState, frame_of}
 use Rattle.video2d.proofs.frames.Frames.lay.Goals as goal
 
 pub returns : goal.returns

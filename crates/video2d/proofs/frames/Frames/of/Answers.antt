@@ -1,6 +1,5 @@
-use Rattle.video2d.proofs.Words.{List, ℕ, ap, sym}
+use Rattle.video2d.proofs.Words.{FramesState, List, ap, sym, ℕ}
 use Rattle.video2d.proofs.FrameLemmas.{all_fresh}
-use Rattle.video2d.specs.rows.Frames.{FramesState}
 use Rattle.video2d.proofs.frames.Frames.of.Goals as goal
 
 pub returns : goal.returns

@@ -1,6 +1,5 @@
-use Rattle.video2d.proofs.Words.{arith}
+use Rattle.video2d.proofs.Words.{arith, frame_format}
 use Rattle.video2d.proofs.FrameLemmas.{put_all, put_one}
-use Rattle.video2d.specs.Saved.{frame_format}
 use Rattle.video2d.proofs.frames.Frames.pack_drawn.Goals as goal
 
 pub loop-i-preserved : goal.loop-i-preserved

@@ -1,5 +1,4 @@
-use Rattle.video2d.proofs.Words.{◌≡◌, drop, bytes_written, pixel_format}
-use Rattle.ds_state.specs.Formats.{written_each}
+use Rattle.video2d.proofs.Words.{bytes_written, drop, pixel_format, written_each, ◌≡◌}
 use Rattle.video2d.proofs.frames.Frames.pack_drawn.Given as goal
 
 abbrev pub invariant-loop-i : goal.invariant-loop-i

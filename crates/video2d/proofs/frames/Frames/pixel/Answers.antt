@@ -1,7 +1,5 @@
-use Rattle.video2d.proofs.Words.{List, ℕ, ◌/◌, ◌∙◌, ap, false, get_or, slice_index, sym}
-use Rattle.ds_base.proofs.Choices.{if_false, if_true}
+use Rattle.video2d.proofs.Words.{FramesState, List, ap, false, get_or, if_false, if_true, slice_index, sym, ℕ, ◌/◌, ◌∙◌}
 use Rattle.video2d.proofs.FrameLemmas.{frame_at}
-use Rattle.video2d.specs.rows.Frames.{FramesState}
 use Rattle.video2d.proofs.frames.Frames.pixel.Goals as goal
 
 pub returns-then-self-i : goal.returns-then-self-i

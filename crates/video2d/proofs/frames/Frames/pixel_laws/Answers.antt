@@ -1,6 +1,5 @@
-use Rattle.video2d.proofs.Words.{◌∙◌, ap, length, sym}
+use Rattle.video2d.proofs.Words.{FramesState, ap, length, sym, ◌∙◌}
 use Rattle.video2d.proofs.FrameLemmas.{frame_long}
-use Rattle.video2d.specs.rows.Frames.{FramesState}
 use Rattle.video2d.proofs.frames.Frames.pixel_laws.Goals as goal
 
 pub returns : goal.returns

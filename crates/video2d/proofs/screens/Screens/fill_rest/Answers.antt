@@ -1,7 +1,5 @@
-use Rattle.video2d.proofs.Words.{List, ℕ, ◌≡◌, ◌∙◌, ap, arith, length}
-use Rattle.std.proofs.lemmas.List.{with_items_is}
+use Rattle.video2d.proofs.Words.{List, ap, arith, frame_of, length, with_items_is, ℕ, ◌∙◌, ◌≡◌}
 use Rattle.video2d.proofs.FrameLemmas.{is_frame}
-use Rattle.video2d.specs.rows.Frames.{frame_of}
 use Rattle.video2d.proofs.screens.Screens.fill_rest.Goals as goal
 
 pub returns : goal.returns

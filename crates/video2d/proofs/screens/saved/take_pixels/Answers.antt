@@ -1,4 +1,4 @@
-use Rattle.video2d.proofs.Words.{refl, length-append, err_from_is_err_and, read_format, read_list, pixel_format}
+use Rattle.video2d.proofs.Words.{err_from_is_err_and, length-append, pixel_format, read_format, read_list, refl}
 use Rattle.ds_state.proofs.Loop.{ends, fails_in, goes_on}
 use Rattle.video2d.proofs.screens.saved.take_pixels.Goals as goal
 

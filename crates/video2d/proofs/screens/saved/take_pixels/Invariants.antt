@@ -1,4 +1,4 @@
-use Rattle.video2d.proofs.Words.{◌≡◌, ◌-◌, length, read_format, read_list, pixel_format}
+use Rattle.video2d.proofs.Words.{length, pixel_format, read_format, read_list, ◌-◌, ◌≡◌}
 use Rattle.ds_state.specs.Loops.{with_front}
 use Rattle.video2d.proofs.screens.saved.take_pixels.Given as goal
 

@@ -1,4 +1,5 @@
-use Rattle.vram_banks.proofs.Words.{◌≡◌, ◌+◌, ◌*◌, ◌/◌, ◌%◌, ◌∙◌, ap, subst, get_or, Arm7, StandsIn, Banks, allotted_bit}
+use Rattle.vram_banks.proofs.Words.{Arm7, Banks, allotted_bit, ap, get_or, subst, ◌%◌, ◌*◌, ◌+◌, ◌/◌, ◌∙◌, ◌≡◌}
+use Rattle.vram_banks.specs.BankMap.{StandsIn}
 use Rattle.vram_banks.proofs.MapLaws.{low_bit, high_bit}
 use Rattle.vram_banks.proofs.banks.Vram.allotted7.Goals as goal
 

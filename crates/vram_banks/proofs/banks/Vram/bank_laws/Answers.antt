@@ -1,4 +1,4 @@
-use Rattle.vram_banks.proofs.Words.{subst, Banks, vram_byte, ◌<◌}
+use Rattle.vram_banks.proofs.Words.{Banks, subst, vram_byte, ◌<◌}
 use Rattle.vram_banks.proofs.Allotted.{stands_in_seven}
 use Rattle.vram_banks.proofs.SetLaws.{byte_narrow}
 use Rattle.vram_banks.proofs.banks.Vram.bank_laws.Goals as goal

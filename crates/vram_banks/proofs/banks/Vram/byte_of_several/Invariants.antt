@@ -1,4 +1,4 @@
-use Rattle.vram_banks.proofs.Words.{◌≡◌, or_below, byte_or_0, cell_of}
+use Rattle.vram_banks.proofs.Words.{byte_or_0, cell_of, or_below, ◌≡◌}
 use Rattle.vram_banks.proofs.banks.Vram.byte_of_several.Given as goal
 
 abbrev pub invariant-loop-bank : goal.invariant-loop-bank

@@ -1,5 +1,4 @@
-use Rattle.vram_banks.proofs.Words.{ℕ, List, ◌≡◌, ◌<◌, ◌+◌, ◌∙◌, ap, sym, subst, length, get_or, arith, or_at, Banks}
-use Rattle.std.proofs.lemmas.List.{get_or-replicate}
+use Rattle.vram_banks.proofs.Words.{Banks, List, ap, arith, get_or, get_or-replicate, length, or_at, subst, sym, ℕ, ◌+◌, ◌<◌, ◌∙◌, ◌≡◌}
 use Rattle.vram_banks.proofs.CellLemmas.{part_of_empty, part_of_one, index_of_range}
 use Rattle.vram_banks.proofs.banks.Vram.part.Goals as goal
 

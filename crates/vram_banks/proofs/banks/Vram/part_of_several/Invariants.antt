@@ -1,4 +1,4 @@
-use Rattle.vram_banks.proofs.Words.{ℕ, ◌≡◌, ◌<◌, ◌+◌, get_or, or_at}
+use Rattle.vram_banks.proofs.Words.{get_or, or_at, ℕ, ◌+◌, ◌<◌, ◌≡◌}
 use Rattle.vram_banks.proofs.banks.Vram.part_of_several.Given as goal
 
 abbrev pub invariant-loop-i : goal.invariant-loop-i

@@ -1,4 +1,4 @@
-use Rattle.vram_banks.proofs.Words.{ℕ, ◌≡◌, ◌%◌, ◌∙◌, slice_set, ap, sym, subst, arith, Byte, put_in_cells, Banks, put_by}
+use Rattle.vram_banks.proofs.Words.{Banks, Byte, ap, arith, put_by, put_in_cells, slice_set, subst, sym, ℕ, ◌%◌, ◌∙◌, ◌≡◌}
 use Rattle.vram_banks.proofs.CellLemmas.{with_bytes, put_to_empty, put_to_one}
 use Rattle.vram_banks.proofs.banks.Vram.put_byte.Goals as goal
 

@@ -1,4 +1,4 @@
-use Rattle.vram_banks.proofs.Words.{◌≡◌, ◌∙◌, ap, sym, subst, arith, Half, put_in_cells, Banks, put_by}
+use Rattle.vram_banks.proofs.Words.{Banks, Half, ap, arith, put_by, put_in_cells, subst, sym, ◌∙◌, ◌≡◌}
 use Rattle.vram_banks.proofs.CellLemmas.{with_bytes, put_to_empty, put_to_one}
 use Rattle.vram_banks.proofs.banks.Vram.put_half.Goals as goal
 

@@ -1,4 +1,4 @@
-use Rattle.vram_banks.proofs.Words.{◌≡◌, put_below, cell_of}
+use Rattle.vram_banks.proofs.Words.{cell_of, put_below, ◌≡◌}
 use Rattle.vram_banks.proofs.banks.Vram.put_several.Given as goal
 
 abbrev pub invariant-loop-bank : goal.invariant-loop-bank

@@ -1,4 +1,4 @@
-use Rattle.vram_banks.proofs.Words.{ℕ, sym, subst, Banks, IsRead}
+use Rattle.vram_banks.proofs.Words.{Banks, IsRead, subst, sym, ℕ}
 use Rattle.vram_banks.proofs.SetLaws.{is_read}
 use Rattle.vram_banks.proofs.banks.Vram.read.Goals as goal
 

@@ -1,4 +1,4 @@
-use Rattle.vram_banks.proofs.Words.{◌∙◌, ap, aligned_down, value_by, or_at, Banks}
+use Rattle.vram_banks.proofs.Words.{Banks, aligned_down, ap, or_at, value_by, ◌∙◌}
 use Rattle.vram_banks.proofs.SetLaws.{value_flat}
 use Rattle.vram_banks.proofs.banks.Vram.read_in_line.Goals as goal
 

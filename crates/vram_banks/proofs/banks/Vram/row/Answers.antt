@@ -1,4 +1,4 @@
-use Rattle.vram_banks.proofs.Words.{ℕ, ◌+◌, ◌∙◌, sym, subst, arith, Banks, IsOr, IsCellAt}
+use Rattle.vram_banks.proofs.Words.{Banks, IsCellAt, IsOr, arith, subst, sym, ℕ, ◌+◌, ◌∙◌}
 use Rattle.vram_banks.proofs.SetLaws.{byte_flat, byte_is_or}
 use Rattle.vram_banks.proofs.banks.Vram.row.Goals as goal
 

@@ -1,4 +1,4 @@
-use Rattle.vram_banks.proofs.Words.{ℕ, ◌≡◌, ◌<◌, ◌≤◌, ◌+◌, ◌-◌, ◌%◌, get_or, length, space_size, origin_of, or_at}
+use Rattle.vram_banks.proofs.Words.{get_or, length, or_at, origin_of, space_size, ℕ, ◌%◌, ◌+◌, ◌-◌, ◌<◌, ◌≡◌, ◌≤◌}
 use Rattle.vram_banks.proofs.banks.Vram.row.Given as goal
 
 abbrev pub invariant-loop-done : goal.invariant-loop-done

@@ -1,4 +1,4 @@
-use Rattle.vram_banks.proofs.Words.{ℕ, List, ◌≡◌, ◌<◌, ◌+◌, ◌-◌, ◌%◌, ◌∙◌, ap, sym, subst, get_or, arith, Banks, or_at, space_size, origin_of}
+use Rattle.vram_banks.proofs.Words.{Banks, List, ap, arith, get_or, or_at, origin_of, space_size, subst, sym, ℕ, ◌%◌, ◌+◌, ◌-◌, ◌<◌, ◌∙◌, ◌≡◌}
 use Rattle.vram_banks.proofs.CellLemmas.{run_byte, in_rest}
 use Rattle.vram_banks.proofs.SetLaws.{byte_flat}
 use Rattle.vram_banks.proofs.banks.Vram.run.Goals as goal

@@ -1,4 +1,4 @@
-use Rattle.vram_banks.proofs.Words.{◌≡◌, ◌∙◌, sym, subst, arith, Word, or_at, Banks, value_by}
+use Rattle.vram_banks.proofs.Words.{Banks, Word, arith, or_at, subst, sym, value_by, ◌∙◌, ◌≡◌}
 use Rattle.vram_banks.proofs.CellLemmas.{value_of_empty, value_of_one}
 use Rattle.vram_banks.proofs.banks.Vram.word.Goals as goal
 

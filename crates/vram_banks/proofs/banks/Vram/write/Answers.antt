@@ -1,4 +1,4 @@
-use Rattle.vram_banks.proofs.Words.{ℕ, ◌≡◌, ◌∙◌, ap, sym, subst, length, aligned_down, put_by, put_in_cells, Banks, vram_written, IsWritten}
+use Rattle.vram_banks.proofs.Words.{Banks, IsWritten, aligned_down, ap, length, put_by, put_in_cells, subst, sym, vram_written, ℕ, ◌∙◌, ◌≡◌}
 use Rattle.vram_banks.proofs.SetLaws.{written_flat, is_written}
 use Rattle.vram_banks.proofs.banks.Vram.write.Goals as goal
 

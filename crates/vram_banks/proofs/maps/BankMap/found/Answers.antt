@@ -1,4 +1,4 @@
-use Rattle.vram_banks.proofs.Words.{ℕ, List, ◌%◌, subst, Empty, One, IsFound}
+use Rattle.vram_banks.proofs.Words.{Empty, IsFound, List, One, subst, ℕ, ◌%◌}
 use Rattle.vram_banks.proofs.PageLemmas.{found_at, moved}
 use Rattle.vram_banks.proofs.maps.BankMap.found.Goals as goal
 

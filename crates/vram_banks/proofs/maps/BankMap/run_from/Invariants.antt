@@ -1,5 +1,4 @@
-use Rattle.vram_banks.proofs.Words.{◌≡◌, ◌≤◌, ◌-◌, ◌%◌}
-use Rattle.vram_banks.specs.paging.Pages.{IsCellRun}
+use Rattle.vram_banks.proofs.Words.{IsCellRun, ◌%◌, ◌-◌, ◌≡◌, ◌≤◌}
 use Rattle.vram_banks.proofs.maps.BankMap.run_from.Given as goal
 
 abbrev pub invariant-loop-size : goal.invariant-loop-size

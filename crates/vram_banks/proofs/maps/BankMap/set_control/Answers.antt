@@ -1,4 +1,4 @@
-use Rattle.vram_banks.proofs.Words.{ℕ, ◌≡◌, sym, subst, rules, arith, length, get_or, set, IsControl}
+use Rattle.vram_banks.proofs.Words.{IsControl, arith, get_or, length, rules, set, subst, sym, ℕ, ◌≡◌}
 use Rattle.vram_banks.proofs.PageLemmas.{controls_set}
 use Rattle.vram_banks.proofs.maps.BankMap.set_control.Goals as goal
 

@@ -1,6 +1,5 @@
-use Rattle.run_ahead.proofs.Words.{ap, Err, ◌≡◌, ℕ, refl, sym, subst, arith, slice_index, with_file, Left, Unpacked, FailsState, console_of}
-use Rattle.run_ahead.proofs.Words.{read_state}
-use Rattle.std.specs.Prelude.{◌<◌}
+use Rattle.run_ahead.proofs.Words.{Err, Left, Unpacked, ap, arith, refl, slice_index, subst, sym, with_file, ℕ, ◌<◌, ◌≡◌}
+use Rattle.run_ahead.specs.Saved.{FailsState, console_of, read_state}
 use Rattle.run_ahead.specs.declared.consoles.saved.Taken.{Taken}
 use Rattle.run_ahead.proofs.SavedStates.{bytes_behind_head, hands_on, left_over}
 use Rattle.run_ahead.proofs.consoles.saved.Taken.read.Goals as goal

@@ -1,4 +1,4 @@
-use Rattle.std.specs.Prelude.{ℕ, ◌≡◌, ◌≤◌, Bool, false, if◌then◌else◌, List, [], ◌∷◌, length, Option, Some, None}
+use Rattle.std.specs.Prelude.{ℕ, ◌-◌, ◌≡◌, ◌≤◌, Bool, false, if◌then◌else◌, List, [], ◌∷◌, length, Option, Some, None}
 use Rattle.ds_base.specs.Accesses.{Access, Fetch, MemoryMachine, Performed, Read, Write, perform}
 use Rattle.ds_base.specs.declared.processors.Arch.{Arch}
 use Rattle.ds_base.specs.declared.processors.Proc.TheVariants.{Nine, Seven}
@@ -45,7 +45,7 @@ step_accesses memory side line s state =
 
 -- there is room for what one more access adds
 abbrev pub HasRoom : MapState → Type 0
-HasRoom m = waiting_entries m.io.gx ≤ 320
+HasRoom m = waiting_entries m.io.gx ≤ most_entries - 4
 
 -- each of some accesses of ARM9, made one after another, finds room; so would those after one that is refused, which aren't made
 abbrev pub FindsRoom : List Access → NineReach → Type 0

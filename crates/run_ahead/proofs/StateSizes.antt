@@ -16,10 +16,11 @@ use Rattle.ds_ipc.specs.Saved.{ipc_format, side_format}
 use Rattle.ds_math.specs.Saved.{divider_format, root_format}
 use Rattle.ds_timers.specs.Saved.{irq_format_by, timer_format, timers_format}
 use Rattle.ds_machine.specs.Saved.{machine_format, saved_size}
+use Rattle.gx_fifo.specs.Entries.{most_entries}
 use Rattle.gx_fifo.specs.Saved.{count_by, entry_format, gx_format_by}
 use Rattle.gx_geometry.specs.Saved.{geometry_format, holds_recent, light_format, lists_format, place_of_number, polygon_format, unless_none, vertex_format}
 use Rattle.gx_geometry.specs.Bounds.{is_place}
-use Rattle.gx_geometry.specs.Polygons.{most_vertices}
+use Rattle.gx_geometry.specs.Polygons.{most_polygons, most_vertices}
 use Rattle.gx_matrix.specs.Saved.{matrix_format, stacks_format}
 use Rattle.video2d.specs.DisplayRegisters.{display_row, engine_bytes, engine_registers}
 use Rattle.video2d.specs.declared.display_registers.DisplayRegister.{DisplayRegister}
@@ -43,8 +44,8 @@ swapped_few tick n greatest at kept = most n greatest (and_parts (nat_le n great
 open_few : (recent : List (Option ℕ)) (at n : ℕ) → holds_recent recent at n ≡ true → n ≤ most_vertices
 open_few recent at n kept = most n most_vertices (and_parts (nat_le n most_vertices) (list_all (is_place n) recent) kept).0
 
-entries_few : (asked : ℕ → ℕ → Bool) (selector at n : ℕ) → count_by asked selector at n ≡ true → n ≤ 324
-entries_few asked selector at n kept = most n 324 (and_parts (asked selector n) (nat_le n 324) kept).1
+entries_few : (asked : ℕ → ℕ → Bool) (selector at n : ℕ) → count_by asked selector at n ≡ true → n ≤ most_entries
+entries_few asked selector at n kept = most n most_entries (and_parts (asked selector n) (nat_le n most_entries) kept).1
 
 module _ (at : ℕ) where
   few_word : ReadsFew at 4 0 word_format
@@ -170,15 +171,15 @@ module _ (at : ℕ) where
 
   few_lists : ReadsFew at 186388 0 lists_format
   unfolding lists_format
-  few_lists = λ tick _ parameter _ vertices kept polygons kept₂. (let a = swapped_few tick vertices 6144 at kept in
-      let b = swapped_few tick polygons 2048 at kept₂ in (22, few_vertex) ⨾ λ vs. (25, few_polygon) ⨾ λ ps. omega (arith, a, b))
+  few_lists = λ tick _ parameter _ vertices kept polygons kept₂. (let a = swapped_few tick vertices most_vertices at kept in
+      let b = swapped_few tick polygons most_polygons at kept₂ in (22, few_vertex) ⨾ λ vs. (25, few_polygon) ⨾ λ ps. omega (arith, a, b))
 
   few_geometry : ReadsFew at 377393 0 geometry_format
   unfolding geometry_format
   few_geometry = (4357, few_stacks) ⨾ λ stacks overflow _ parameter _ colour _ x _ y _ z _ raw_s _ raw_t _ s _ t _ set _ attributes _ texture _ palette _ viewport _
       diffuse _ ambient _ specular _ emission _ by_table _ table _. (14, few_light) ⨾ λ light_0. (14, few_light) ⨾ λ light_1. (14, few_light) ⨾ λ light_2.
       (14, few_light) ⨾ λ light_3 kind _ run _ first _ second _ third _. (4, few_signed) ⨾ λ position vector_x _ vector_y _ vector_z _ inside _
-      vertices kept polygons kept₂. (let a = open_few (map place_of_number (first ∷ second ∷ third ∷ [])) at vertices kept in let b = most polygons 2048 kept₂ in
+      vertices kept polygons kept₂. (let a = open_few (map place_of_number (first ∷ second ∷ third ∷ [])) at vertices kept in let b = most polygons most_polygons kept₂ in
       (22, few_vertex) ⨾ λ vs. (25, few_polygon) ⨾ λ ps. (186388, few_lists) ⨾ λ last. omega (arith, a, b))
 
   few_entry : ReadsFew at 5 0 entry_format

@@ -6,6 +6,7 @@ ghost use Rattle.ds_machine.specs.Acting.{IsActing};
 ghost use Rattle.ds_machine.specs.Booted.{machine_booted};
 ghost use Rattle.ds_machine.specs.Frames.{framed_of};
 ghost use Rattle.ds_machine.specs.FrameLaws.{FollowFrames, FollowLists};
+ghost use Rattle.gx_fifo.specs.Entries.{most_entries};
 ghost use Rattle.ds_machine.specs.Inspections.{memory_of, registers_of, seen_of};
 ghost use Rattle.ds_ipc.specs.Ipcs.{AreSides};
 ghost use Rattle.ds_machine.specs.Sound.{HasSoundParts, IsSound};
@@ -149,7 +150,7 @@ impl Console {
         ensures sound { self.now.stopped ≡ None → IsSound self.now.machine }
         ensures ipc { AreSides self.now.machine.io.ipc }
         ensures statuses { HasBothStatuses self.now.machine }
-        ensures entries { length self.now.machine.io.gx.fifo.entries ≤ 324 }
+        ensures entries { length self.now.machine.io.gx.fifo.entries ≤ most_entries }
         ensures open { AreWithin self.now.machine.io.gx.geometry.outcome.vertices self.now.machine.io.gx.geometry.outcome.polygons }
         ensures last { AreWithin self.now.machine.io.gx.geometry.last.vertices self.now.machine.io.gx.geometry.last.polygons }
         ensures turns { self.now.turns ≤ 24 * self.now.limit }

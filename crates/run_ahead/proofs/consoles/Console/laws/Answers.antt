@@ -1,4 +1,5 @@
 use Rattle.run_ahead.proofs.Words.{AreWithin, ConsoleState, IsSound, ap, arith, length, subst, ◌∙◌, ◌≡◌, ◌≤◌}
+use Rattle.gx_fifo.specs.Entries.{most_entries}
 use Rattle.run_ahead.proofs.consoles.Console.laws.Goals as goal
 
 pub returns-clause-sound : goal.returns-clause-sound
@@ -6,7 +7,7 @@ returns-clause-sound c = λ none.
     subst (λ (x : ConsoleState). IsSound x.machine) c.self.view_is (c.self.invariant.3 (ap (λ (x : ConsoleState). x.stopped) c.self.view_is ∙ none)).sound
 
 pub returns-clause-entries : goal.returns-clause-entries
-returns-clause-entries c = subst (λ (x : ConsoleState). length x.machine.io.gx.fifo.entries ≤ 324) c.self.view_is c.laws.ensures.geometry.waiting.entries
+returns-clause-entries c = subst (λ (x : ConsoleState). length x.machine.io.gx.fifo.entries ≤ most_entries) c.self.view_is c.laws.ensures.geometry.waiting.entries
 
 pub returns-clause-open : goal.returns-clause-open
 returns-clause-open c =

@@ -10,8 +10,8 @@ use Rattle.ds_ports.specs.Io.{IoState}
 use Rattle.ds_ports.specs.Ports.{port_refusal, port_written, unless_stopped}
 
 -- The code's form of a write of a port (our choice of form): what waits for geometry has a fixed size, `most_entries`, and a write of ARM9's adds
--- four entries at most, so one is ignored that comes while there may be no room for them. The machine makes none then: no public clause of it speaks of
--- this.
+-- four entries at most, so one is ignored that comes while there may be no room for them. The machine makes none then: no public clause of it
+-- speaks of this.
 
 abbrev pub is_overfull : Proc → IoState → Bool
 is_overfull Nine u = nat_lt (most_entries - 4) (waiting_entries u.gx)

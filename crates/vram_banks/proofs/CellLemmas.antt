@@ -169,9 +169,6 @@ index_of_range bytes cell n i lt = get_or-take (cell + n - cell) (drop cell byte
 
 -- ---- a run of cells
 
-pub run_none : (controls : List ℕ) (x first : ℕ) → first ≤ 0xA4000 → IsCellRun controls x (record { first = first; size = 0 })
-run_none controls x first le = record { room = omega (arith, le); each = λ i lt. absurd (omega (arith, lt)) }
-
 -- it goes on by the page that follows
 pub run_more : (controls : List ℕ) (x first size : ℕ) → (x + size) % 8192 ≡ 0 → IsCellRun controls x (record { first = first; size = size }) →
     IsFound controls (x + size) (One (first + size)) → IsCellRun controls x (record { first = first; size = size + 8192 })

@@ -3,12 +3,13 @@ use Rattle.ds_machine.proofs.Words.{false, List, [], ◌∷◌, refl, sym, ◌�
 use Rattle.ds_machine.proofs.Words.{Palette, Oam, Nine, Cp15State, in_dtcm, in_itcm, tcm_of, Itcm, Dtcm, Past, BootRom, Cells, Content, Empty, Ports}
 use Rattle.ds_machine.proofs.Words.{Region, place_at, place_by, place_of, regions_of_nine, shared_for_nine, Place, from_same, past_row, upto_same}
 use Rattle.ds_machine.proofs.Words.{MapState, is_private_place, NineReach, SevenReach, is_private_tcm, is_private_to_seven, nine_side, seven_side}
-use Rattle.ds_machine.proofs.Words.{GoesByWords}
+use Rattle.ds_machine.proofs.Words.{GoesByWords, MachineState, is_private_to, nine_reach, tick_of}
 use Rattle.std.proofs.Common.{not}
 use Rattle.ds_base.specs.Memories.{space_size}
 use Rattle.ds_base.specs.declared.memories.Space.TheVariants.{Arm7}
-use Rattle.cp15_tcm.specs.TightlyCoupled.{answers, covered, dtcm_base}
-use Rattle.ds_places.specs.AddressTables.{Video}
+use Rattle.cp15_tcm.specs.TightlyCoupled.{answers, covered, dtcm_base, IsMainPast}
+use Rattle.cp15_tcm.specs.declared.answers.Tcm.{Tcm}
+use Rattle.ds_places.specs.AddressTables.{Video, is_of_region, main_region}
 use Rattle.vram_banks.specs.BankMap.{same_space}
 use Rattle.vram_banks.proofs.Allotted.{not_met}
 
@@ -194,3 +195,19 @@ seven_by_words = record { same = same } where
       ap (λ (t : Bool). (t && nat_le a 0x3FFF) || own a) (from_same a b 0 refl e) ∙ ap (λ (t : Bool). (nat_le 0 b && t) || own a) (upto_same a b 0x3FFF refl e)
       ∙ ap (λ (t : Bool). rom b || (t && nat_le a 0x03FFFFFF)) (from_same a b 0x03800000 refl e)
       ∙ ap (λ (t : Bool). rom b || (nat_le 0x03800000 b && t)) (upto_same a b 0x03FFFFFF refl e)
+
+-- ---- main memory isn't private
+
+main_row : (w at : ℕ) → 0x02000000 ≤ at → at ≤ 0x02FFFFFF → is_private_in (regions_of_nine w) at ≡ false
+main_row w at low high = grind (arith, low, high)
+
+-- ARM9's code there, where it lies past both tightly coupled memories
+pub main_of_nine : (s : MachineState) (at : ℕ) → IsMainPast s.nine.cp15 at false true → is_private_to s Nine false true at ≡ false
+main_of_nine s at k =
+    let m = (nine_reach (tick_of s.nine.processor) s).map in
+    ap (λ (t : Tcm). is_private_tcm t m at) (k.past at k.from (omega arith)) ∙ private_by_rows m.io.vram.controls m.io.wramcnt at
+    ∙ main_row m.io.wramcnt at k.from k.upto
+
+-- and ARM7's
+pub main_of_seven : (at : ℕ) → is_of_region main_region at ≡ true → is_private_to_seven at ≡ false
+main_of_seven at h = grind arith

@@ -13,6 +13,7 @@ use crate::parts::Parts;
 use crate::processors::ticks_of;
 use arm_ops::{Lists, Runner, Singles};
 use ds_base::{Proc, Tick};
+use ds_places::is_main;
 
 /// What came of trying a step of a processor's turn.
 #[derive(Clone, Copy, PartialEq, Eq)]
@@ -35,6 +36,18 @@ impl Parts {
     {
         let at = self.processor(proc).core.registers.pc();
         self.is_private(proc, at, false, true)
+    }
+
+    /// Whether a processor fetches from main memory, which isn't private: ARM9 where it lies past both tightly coupled memories.
+    #[inline(always)]
+    fn fetches_main(&self, proc: Proc) -> bool
+        ensures { result ≡ true → FetchStaysPrivate self.now proc → ⊥ }
+    {
+        let at = self.processor(proc).core.registers.pc();
+        match proc {
+            Proc::Nine => self.nine.cp15.is_main_fetch(at),
+            Proc::Seven => is_main(at),
+        }
     }
 
     /// Whether a tick is below a processor's fence.
@@ -182,7 +195,7 @@ impl Parts {
         self.go_on_ahead(Proc::Seven, until, end, limit)
     }
 
-    /// The same of either. A turn whose next fetch isn't private is over at once.
+    /// The same of either. A turn whose next fetch is from main memory is over at once: code lies there most.
     #[inline(always)]
     fn go_ahead(&mut self, proc: Proc, until: Tick, end: u64, limit: u64) -> bool
         requires early { until.0 ≤ 2 ^ 56 }
@@ -191,7 +204,7 @@ impl Parts {
         ensures went { WentOn until.0 proc end limit self.old self.new }
         ensures over { result ≡ true → BelongsToTurn until.0 self.new proc → ⊥ }
     {
-        if !self.is_fetch_private(proc) {
+        if self.fetches_main(proc) {
             return true;
         }
         match proc {

@@ -10,7 +10,7 @@ ghost use Rattle.ds_machine.specs.TurnSteps.{BelongsToTurn};
 ghost use Rattle.ds_machine.specs.Touching.{FetchStaysPrivate, MayBeAhead};
 
 use crate::parts::Parts;
-use crate::processors::ticks_of;
+use crate::processors::few_ticks_of;
 use arm_ops::{Lists, Runner, Singles};
 use ds_base::{Proc, Tick};
 use ds_places::is_main;
@@ -104,7 +104,7 @@ impl Parts {
             }
             return Gone::Unknown;
         }
-        self.go_on(proc, ticks_of(proc, fast.clocks, fast.waits), false);
+        self.go_on(proc, few_ticks_of(proc, fast.clocks, fast.waits), false);
         Gone::Took
     }
 
@@ -130,7 +130,7 @@ impl Parts {
             }
             return Gone::Unknown;
         }
-        self.go_on(proc, ticks_of(proc, fast.clocks, fast.waits), false);
+        self.go_on(proc, few_ticks_of(proc, fast.clocks, fast.waits), false);
         Gone::Took
     }
 

@@ -86,6 +86,16 @@ pub fn ticks_of(proc: Proc, clocks: u32, waits: u32) -> u64
     proc.ticks_per_clock() * clocks as u64 + waits as u64
 }
 
+/// The same of a step that is known to cost few: put together in 32 bits.
+#[inline(always)]
+pub fn few_ticks_of(proc: Proc, clocks: u32, waits: u32) -> u64
+    requires { ticks_per_clock proc * clocks + waits ≤ 180 }
+    ensures value { result ≡ ticks_per_clock proc * clocks + waits }
+    ensures brief { result ≤ 2 ^ 40 }
+{
+    (proc.ticks_per_clock() as u32 * clocks + waits) as u64
+}
+
 /// When a processor goes on after a tick, by its last unit of DMA, if there was one: at the next tick, or once the unit's waits are over.
 #[inline(always)]
 pub fn past_unit(last: Option<LastUnit>, tick: Tick) -> u64

@@ -1,8 +1,9 @@
-use Rattle.ds_machine.proofs.Words.{ℕ, ◌<◌, inl, inr, refl, sym, ◌∙◌, ap, arith, Cost, ProcessorState, tick_of}
+use Rattle.ds_machine.proofs.Words.{ℕ, ◌<◌, inl, inr, refl, sym, ◌∙◌, ap, subst, arith, Cost, ProcessorState, tick_of}
 use Rattle.arm_core.specs.declared.outcomes.Stepped as arm
 use Rattle.ds_machine.proofs.FastTurns.{is_due, over_at_end, over_past, went_fast}
 use Rattle.ds_machine.proofs.GoingSteps.{ahead_data, ahead_if, ahead_may}
 use Rattle.ds_machine.proofs.GuardedSteps.{free_for}
+use Rattle.ds_machine.proofs.MostCosts.{CostsAtMost, step_costs_few}
 use Rattle.ds_machine.proofs.ProcessorSteps.{reached_early, reached_few}
 use Rattle.ds_machine.proofs.Running.{few_steps}
 use Rattle.ds_machine.proofs.parts.Parts.step_ahead.Goals as goal
@@ -56,6 +57,11 @@ returns-then-fast g c = (
   c.take_fast-fast.ensures.none (c.take_fast-fast.ensures.left c.if-fast.true).0,
 )
 
+pub few_ticks_of-requires : goal.few_ticks_of-requires
+few_ticks_of-requires g c =
+    let some : 0 < c.take_fast-fast.result.clocks = (let more = c.if-fast-eq0.false in omega (arith, more)) in
+    subst (CostsAtMost 180) (c.take_fast-fast.ensures.stepped some) (step_costs_few c.args.proc (record { 0 = c.processor.result.now.due }) c.args.self.now)
+
 pub go_on-requires-clause-early : goal.go_on-requires-clause-early
 go_on-requires-clause-early g c =
     let n = c.processor.result.now.due in
@@ -85,5 +91,5 @@ returns g c =
     let k = c.may_go_on.ensures.yes c.if-not-may_go_on.false in
     let d = is_due s proc until c.args.end c.args.limit n c.requires.goes due early in
     went_fast s proc until c.args.end c.args.limit n c.requires.goes due early c.take_fast-fast.new.self c.go_on.new.self
-    c.ticks_of.result k.0 (inr (ahead_if s proc n d k.1 (fast.stays refl some))) (fast.machine some) (fast.stepped some ∙ ap cost (sym c.ticks_of.ensures.value))
+    c.few_ticks_of.result k.0 (inr (ahead_if s proc n d k.1 (fast.stays refl some))) (fast.machine some) (fast.stepped some ∙ ap cost (sym c.few_ticks_of.ensures.value))
     fast.io c.go_on.ensures (fast.near some)

@@ -1,7 +1,8 @@
-use Rattle.ds_machine.proofs.Words.{ℕ, ◌<◌, inl, sym, ◌∙◌, ap, arith, Cost, ProcessorState, tick_of}
+use Rattle.ds_machine.proofs.Words.{ℕ, ◌<◌, inl, sym, ◌∙◌, ap, subst, arith, Cost, ProcessorState, tick_of}
 use Rattle.arm_core.specs.declared.outcomes.Stepped as arm
 use Rattle.ds_machine.proofs.FastTurns.{below_turn, least_now, went_fast}
 use Rattle.ds_machine.proofs.GuardedSteps.{free_for}
+use Rattle.ds_machine.proofs.MostCosts.{CostsAtMost, step_costs_few}
 use Rattle.ds_machine.proofs.ProcessorSteps.{reached_early, reached_few}
 use Rattle.ds_machine.proofs.Running.{few_steps}
 use Rattle.ds_machine.proofs.parts.Parts.step_least.Goals as goal
@@ -21,6 +22,11 @@ take_fast-fast-requires-clause-line g c = sym c.requires.goes.down
 pub take_fast-fast-requires-clause-room : goal.take_fast-fast-requires-clause-room
 take_fast-fast-requires-clause-room g c =
     free_for c.args.proc c.args.self.now c.requires.goes.running.sound.parts c.requires.goes.least.free
+
+pub few_ticks_of-requires : goal.few_ticks_of-requires
+few_ticks_of-requires g c =
+    let some : 0 < c.take_fast-fast.result.clocks = (let more = c.if-fast-eq0.false in omega (arith, more)) in
+    subst (CostsAtMost 180) (c.take_fast-fast.ensures.stepped some) (step_costs_few c.args.proc (record { 0 = c.processor.result.now.due }) c.args.self.now)
 
 pub go_on-requires-clause-early : goal.go_on-requires-clause-early
 go_on-requires-clause-early g c =
@@ -53,6 +59,6 @@ returns g c =
     let fast = c.take_fast-fast.ensures in
     let before : n < c.args.limit = omega (arith, due, least) in
     went_fast s proc until c.args.end c.args.limit n c.requires.goes due early c.take_fast-fast.new.self c.go_on.new.self
-    c.ticks_of.result (below_turn s proc until c.args.end c.args.limit n c.requires.goes due early before)
-    (inl (least_now s proc until c.args.end c.args.limit n c.requires.goes due early before)) (fast.machine some) (fast.stepped some ∙ ap cost (sym c.ticks_of.ensures.value))
+    c.few_ticks_of.result (below_turn s proc until c.args.end c.args.limit n c.requires.goes due early before)
+    (inl (least_now s proc until c.args.end c.args.limit n c.requires.goes due early before)) (fast.machine some) (fast.stepped some ∙ ap cost (sym c.few_ticks_of.ensures.value))
     fast.io c.go_on.ensures (fast.near some)

@@ -17,7 +17,7 @@ use Rattle.ds_machine.proofs.Wakes.{put_beside}
 took_leaves : (until : ℕ) (s next : MachineState) (proc : Proc) → TookStep until proc s next → LeavesOthers proc s next
 took_leaves until s next proc took = record { beside = record { io = took.io; keys = took.keys }; other = took.other }
 
-module _ (s : MachineState) (proc : Proc) (until end limit n : ℕ) (goes : GoesFast until proc end limit s)
+module _ (s : MachineState) (proc : Proc) (until end limit : ℕ) (up : Bool) (n : ℕ) (goes : GoesFast until proc end limit up s)
     (due : n ≡ (processor_of s proc).due) (early : until ≤ 2 ^ 56) where
   pub is_due : IsDueAt s proc n
   is_due =
@@ -54,11 +54,11 @@ module _ (s : MachineState) (proc : Proc) (until end limit n : ℕ) (goes : Goes
   pub over_at_end : until ≤ n → BelongsToTurn until s proc → ⊥
   over_at_end le b = let lt = below_then b in absurd (omega (arith, le, lt))
 
-  goes_after : (next : MachineState) → TookStep until proc s next → GoesFast until proc end limit next
+  goes_after : (next : MachineState) → TookStep until proc s next → GoesFast until proc end limit up next
   goes_after next took =
       let leaves = took_leaves until s next proc took in
       record {
-        down = ap (λ (u : IoState). line_is_up (io_of u proc).irq) took.io ∙ goes.down;
+        line = ap (λ (u : IoState). line_is_up (io_of u proc).irq) took.io ∙ goes.line;
         events = λ some. end_stays until end s next leaves.beside (goes.events some);
         least = limit_stays until limit s next proc leaves goes.least;
         running = took.running;
@@ -68,7 +68,7 @@ module _ (s : MachineState) (proc : Proc) (until end limit n : ℕ) (goes : Goes
   pub went_fast : (m next : MachineState) (clocks : ℕ) → n < until → IsLeast (acting_dues s) (record { 0 = n }) (rank_of proc) ⊎ IsAhead s proc
       → m ≡ (outcome_of proc (record { 0 = n }) s).machine → (outcome_of proc (record { 0 = n }) s).stepped ≡ Cost clocks → m.io ≡ s.io
       → next ≡ with_processor proc m (went_on clocks false (processor_of m proc)) → DataStaysNear (record { 0 = n }) s proc
-      → TookStep until proc s next × GoesFast until proc end limit next
+      → TookStep until proc s next × GoesFast until proc end limit up next
   went_fast m next clocks lt goes_now machine stepped io e near =
       let tick : Tick = record { 0 = n } in
       let d = is_due in
@@ -84,9 +84,9 @@ module _ (s : MachineState) (proc : Proc) (until end limit n : ℕ) (goes : Goes
       (took, goes_after next took)
 
 -- a step that was taken made the processor due later
-pub later : (until : ℕ) (proc : Proc) (end limit : ℕ) (s next : MachineState) → GoesFast until proc end limit s
-    → TookStep until proc s next × GoesFast until proc end limit next → (processor_of s proc).due ≤ (processor_of next proc).due
-later until proc end limit s next goes went =
+pub later : (until : ℕ) (proc : Proc) (end limit : ℕ) (up : Bool) (s next : MachineState) → GoesFast until proc end limit up s
+    → TookStep until proc s next × GoesFast until proc end limit up next → (processor_of s proc).due ≤ (processor_of next proc).due
+later until proc end limit up s next goes went =
     let left : (m : MachineState) → is_blocked m proc ≡ false → own_remaining until m proc ≡ until - (processor_of m proc).due =
     λ m free. ap (λ (b : Bool). ticks_left until (due_unless b (processor_of m proc))) free in
     let fewer = went.0.fewer in
@@ -102,12 +102,12 @@ steps_then until proc a b c first (more_steps start before caught next earlier b
 
 -- ---- a loop over them: the steps so far were of the turn, and the next goes by the same
 
-pub went_none : (until : ℕ) (proc : Proc) (end limit : ℕ) (s : MachineState) → GoesFast until proc end limit s → WentOn until proc end limit s s
-went_none until proc end limit s goes = record { steps = no_steps s; goes = goes; io = refl; keys = refl; other = refl }
+pub went_none : (until : ℕ) (proc : Proc) (end limit : ℕ) (up : Bool) (s : MachineState) → GoesFast until proc end limit up s → WentOn until proc end limit up s s
+went_none until proc end limit up s goes = record { steps = no_steps s; goes = goes; io = refl; keys = refl; other = refl }
 
-pub went_more : (until : ℕ) (proc : Proc) (end limit : ℕ) (start before now : MachineState) → WentOn until proc end limit start before
-    → TookStep until proc before now × GoesFast until proc end limit now → WentOn until proc end limit start now
-went_more until proc end limit start before now g k =
+pub went_more : (until : ℕ) (proc : Proc) (end limit : ℕ) (up : Bool) (start before now : MachineState) → WentOn until proc end limit up start before
+    → TookStep until proc before now × GoesFast until proc end limit up now → WentOn until proc end limit up start now
+went_more until proc end limit up start before now g k =
     let took = k.0 in
     record {
       steps = more_steps start before before now g.steps took.belongs (needs_none before proc took.unobserving) took.made;
@@ -118,14 +118,14 @@ went_more until proc end limit start before now g k =
     }
 
 -- where it ends, the last try left all as it was
-pub went_same : (until : ℕ) (proc : Proc) (end limit : ℕ) (start before now : MachineState) → WentOn until proc end limit start before
-    → now ≡ before → WentOn until proc end limit start now
-went_same until proc end limit start before now g same = subst (WentOn until proc end limit start) (sym same) g
+pub went_same : (until : ℕ) (proc : Proc) (end limit : ℕ) (up : Bool) (start before now : MachineState) → WentOn until proc end limit up start before
+    → now ≡ before → WentOn until proc end limit up start now
+went_same until proc end limit up start before now g same = subst (WentOn until proc end limit up start) (sym same) g
 
 -- some, and then more
-pub went_then : (until : ℕ) (proc : Proc) (end limit : ℕ) (start before now : MachineState) → WentOn until proc end limit start before
-    → WentOn until proc end limit before now → WentOn until proc end limit start now
-went_then until proc end limit start before now g k = record {
+pub went_then : (until : ℕ) (proc : Proc) (end limit : ℕ) (up : Bool) (start before now : MachineState) → WentOn until proc end limit up start before
+    → WentOn until proc end limit up before now → WentOn until proc end limit up start now
+went_then until proc end limit up start before now g k = record {
   steps = steps_then until proc start before now g.steps k.steps;
   goes = k.goes;
   io = k.io ∙ g.io;
@@ -134,5 +134,5 @@ went_then until proc end limit start before now g k = record {
 }
 
 -- so it leaves the others as they were
-pub leaves_others : (until : ℕ) (proc : Proc) (end limit : ℕ) (s next : MachineState) → WentOn until proc end limit s next → LeavesOthers proc s next
-leaves_others until proc end limit s next w = record { beside = record { io = w.io; keys = w.keys }; other = w.other }
+pub leaves_others : (until : ℕ) (proc : Proc) (end limit : ℕ) (up : Bool) (s next : MachineState) → WentOn until proc end limit up s next → LeavesOthers proc s next
+leaves_others until proc end limit up s next w = record { beside = record { io = w.io; keys = w.keys }; other = w.other }

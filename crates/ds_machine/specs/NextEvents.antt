@@ -97,26 +97,26 @@ pub record TookStep (until : ℕ) (proc : Proc) (s next : MachineState) : Type 0
   pub keys : next.keys ≡ s.keys
   pub other : (processor_of next (other_proc proc)).due ≡ (processor_of s (other_proc proc)).due
 
--- what the fast steps of a processor go by: the machine goes on; the processor's line is down; where it is known, this is the first tick at which an
--- event acts; and the first at which the processor isn't the least acting actor, or isn't due below a limit, any more
-pub record GoesFast (until : ℕ) (proc : Proc) (end limit : ℕ) (s : MachineState) : Type 0 where
-  pub down : line_of s proc ≡ false
+-- what the fast steps of a processor go by: the machine goes on; the processor's line is up or isn't; where it is known, this is the first tick at
+-- which an event acts; and the first at which the processor isn't the least acting actor, or isn't due below a limit, any more
+pub record GoesFast (until : ℕ) (proc : Proc) (end limit : ℕ) (up : Bool) (s : MachineState) : Type 0 where
+  pub line : line_of s proc ≡ up
   pub events : 0 < end → IsTurnEnd until s end
   pub least : HasLimit until s proc limit
   pub running : IsRunning last_limit s
 
 -- what trying one gives: it was taken, and the next goes by the same; or no step belongs to the turn any more; or it isn't a fast one. Where it
 -- wasn't taken the machine is as it was
-abbrev pub WentFast : ℕ → Proc → ℕ → ℕ → MachineState → Gone → MachineState → Type 0
-WentFast until proc end limit old gone.Took new = TookStep until proc old new × GoesFast until proc end limit new
-WentFast until proc end limit old gone.Over new = (¬ BelongsToTurn until old proc) × (new ≡ old)
-WentFast until proc end limit old gone.Unknown new = new ≡ old
-WentFast until proc end limit old gone.List new = new ≡ old
+abbrev pub WentFast : ℕ → Proc → ℕ → ℕ → Bool → MachineState → Gone → MachineState → Type 0
+WentFast until proc end limit up old gone.Took new = TookStep until proc old new × GoesFast until proc end limit up new
+WentFast until proc end limit up old gone.Over new = (¬ BelongsToTurn until old proc) × (new ≡ old)
+WentFast until proc end limit up old gone.Unknown new = new ≡ old
+WentFast until proc end limit up old gone.List new = new ≡ old
 
 -- what many of them give: they were of the turn, the next goes by the same, and no unit changed
-pub record WentOn (until : ℕ) (proc : Proc) (end limit : ℕ) (s next : MachineState) : Type 0 where
+pub record WentOn (until : ℕ) (proc : Proc) (end limit : ℕ) (up : Bool) (s next : MachineState) : Type 0 where
   pub steps : TakesSteps until proc s next
-  pub goes : GoesFast until proc end limit next
+  pub goes : GoesFast until proc end limit up next
   pub io : next.io ≡ s.io
   pub keys : next.keys ≡ s.keys
   pub other : (processor_of next (other_proc proc)).due ≡ (processor_of s (other_proc proc)).due

@@ -86,18 +86,25 @@ impl Parts {
     }
 
     /// One step of a processor's turn, where it is one of the fast path, which makes one access at most, or is LDM or STM, as says who runs it; by
-    /// the first tick at which an event acts, or 0, and the first at which the processor isn't the least acting one any more, which it is now. Its
-    /// line is down, so it enters no interrupt. It costs, and changes no unit: so no processor wakes. It observes nothing of geometry: it reaches RAM
-    /// alone, or loads from a port that isn't observed.
+    /// the first tick at which an event acts, or 0, and the first at which the processor isn't the least acting one any more, which it is now. It is
+    /// told whether the line is up, and where that is so with I clear it is none: no interrupt is entered. It costs, and changes no unit: so no
+    /// processor wakes. It observes nothing of geometry: it reaches RAM alone, or loads from a port that isn't observed.
     #[inline(always)]
-    fn step_least<R: Runner>(&mut self, proc: Proc, until: Tick, end: u64, limit: u64) -> Gone
+    fn step_least<R: Runner>(
+        &mut self,
+        proc: Proc,
+        until: Tick,
+        end: u64,
+        limit: u64,
+        up: bool,
+    ) -> Gone
         requires early { until.0 ≤ 2 ^ 56 }
-        requires goes { GoesFast until.0 proc end limit self.old }
+        requires goes { GoesFast until.0 proc end limit up self.old }
         requires least { (processor_of self.old proc).due < limit }
-        ensures { WentFast until.0 proc end limit self.old result self.new }
+        ensures { WentFast until.0 proc end limit up self.old result self.new }
     {
         let due = self.processor(proc).due;
-        let fast = self.take_fast::<R, 0>(proc, Tick(due), false);
+        let fast = self.take_fast::<R, 0>(proc, Tick(due), up);
         if fast.clocks == 0 {
             if fast.list {
                 return Gone::List;
@@ -108,13 +115,14 @@ impl Parts {
         Gone::Took
     }
 
-    /// The same where the processor isn't the least acting one any more: the step is ahead of its turn, and reaches private places alone.
+    /// The same where the processor isn't the least acting one any more: the step is ahead of its turn, and reaches private places alone. Its line is
+    /// down.
     #[inline(always)]
     fn step_ahead<R: Runner>(&mut self, proc: Proc, until: Tick, end: u64, limit: u64) -> Gone
         requires early { until.0 ≤ 2 ^ 56 }
-        requires goes { GoesFast until.0 proc end limit self.old }
+        requires goes { GoesFast until.0 proc end limit false self.old }
         requires past { limit ≤ (processor_of self.old proc).due }
-        ensures { WentFast until.0 proc end limit self.old result self.new }
+        ensures { WentFast until.0 proc end limit false self.old result self.new }
     {
         let due = self.processor(proc).due;
         if !self.may_go_on(proc, until, end, Tick(due)) {
@@ -134,17 +142,25 @@ impl Parts {
         Gone::Took
     }
 
-    /// The same of LDM and STM, wherever it stands in its turn. It stands out of line, so that the loops over steps have no second copy of what they
-    /// need.
+    /// The step that is the least, of LDM and STM. It stands out of line, so that the loops over steps have no second copy of what they need.
     #[inline(never)]
-    fn step_list(&mut self, proc: Proc, until: Tick, end: u64, limit: u64) -> Gone
+    fn step_list_least(&mut self, proc: Proc, until: Tick, end: u64, limit: u64, up: bool) -> Gone
         requires early { until.0 ≤ 2 ^ 56 }
-        requires goes { GoesFast until.0 proc end limit self.old }
-        ensures { WentFast until.0 proc end limit self.old result self.new }
+        requires goes { GoesFast until.0 proc end limit up self.old }
+        requires least { (processor_of self.old proc).due < limit }
+        ensures { WentFast until.0 proc end limit up self.old result self.new }
     {
-        if self.processor(proc).due < limit {
-            return self.step_least::<Lists<0>>(proc, until, end, limit);
-        }
+        self.step_least::<Lists<0>>(proc, until, end, limit, up)
+    }
+
+    /// The step ahead of its turn, of LDM and STM; out of line too.
+    #[inline(never)]
+    fn step_list_ahead(&mut self, proc: Proc, until: Tick, end: u64, limit: u64) -> Gone
+        requires early { until.0 ≤ 2 ^ 56 }
+        requires goes { GoesFast until.0 proc end limit false self.old }
+        requires past { limit ≤ (processor_of self.old proc).due }
+        ensures { WentFast until.0 proc end limit false self.old result self.new }
+    {
         self.step_ahead::<Lists<1>>(proc, until, end, limit)
     }
 
@@ -152,9 +168,9 @@ impl Parts {
     #[inline(always)]
     fn go_on_ahead(&mut self, proc: Proc, until: Tick, end: u64, limit: u64) -> bool
         requires early { until.0 ≤ 2 ^ 56 }
-        requires goes { GoesFast until.0 proc end limit self.old }
+        requires goes { GoesFast until.0 proc end limit false self.old }
         requires past { limit ≤ (processor_of self.old proc).due }
-        ensures went { WentOn until.0 proc end limit self.old self.new }
+        ensures went { WentOn until.0 proc end limit false self.old self.new }
         ensures over { result ≡ true → BelongsToTurn until.0 self.new proc → ⊥ }
     {
         'steps: loop {
@@ -162,7 +178,7 @@ impl Parts {
                 Gone::Took => {}
                 Gone::Over => return true,
                 Gone::Unknown => return false,
-                Gone::List => match self.step_list(proc, until, end, limit) {
+                Gone::List => match self.step_list_ahead(proc, until, end, limit) {
                     Gone::Took => {}
                     Gone::Over => return true,
                     Gone::Unknown | Gone::List => return false,
@@ -175,9 +191,9 @@ impl Parts {
     #[inline(never)]
     fn go_on_ahead_of_nine(&mut self, until: Tick, end: u64, limit: u64) -> bool
         requires early { until.0 ≤ 2 ^ 56 }
-        requires goes { GoesFast until.0 Nine end limit self.old }
+        requires goes { GoesFast until.0 Nine end limit false self.old }
         requires past { limit ≤ (processor_of self.old Nine).due }
-        ensures went { WentOn until.0 Nine end limit self.old self.new }
+        ensures went { WentOn until.0 Nine end limit false self.old self.new }
         ensures over { result ≡ true → BelongsToTurn until.0 self.new Nine → ⊥ }
     {
         self.go_on_ahead(Proc::Nine, until, end, limit)
@@ -187,9 +203,9 @@ impl Parts {
     #[inline(never)]
     fn go_on_ahead_of_seven(&mut self, until: Tick, end: u64, limit: u64) -> bool
         requires early { until.0 ≤ 2 ^ 56 }
-        requires goes { GoesFast until.0 Seven end limit self.old }
+        requires goes { GoesFast until.0 Seven end limit false self.old }
         requires past { limit ≤ (processor_of self.old Seven).due }
-        ensures went { WentOn until.0 Seven end limit self.old self.new }
+        ensures went { WentOn until.0 Seven end limit false self.old self.new }
         ensures over { result ≡ true → BelongsToTurn until.0 self.new Seven → ⊥ }
     {
         self.go_on_ahead(Proc::Seven, until, end, limit)
@@ -199,9 +215,9 @@ impl Parts {
     #[inline(always)]
     fn go_ahead(&mut self, proc: Proc, until: Tick, end: u64, limit: u64) -> bool
         requires early { until.0 ≤ 2 ^ 56 }
-        requires goes { GoesFast until.0 proc end limit self.old }
+        requires goes { GoesFast until.0 proc end limit false self.old }
         requires past { limit ≤ (processor_of self.old proc).due }
-        ensures went { WentOn until.0 proc end limit self.old self.new }
+        ensures went { WentOn until.0 proc end limit false self.old self.new }
         ensures over { result ≡ true → BelongsToTurn until.0 self.new proc → ⊥ }
     {
         if self.fetches_main(proc) {
@@ -213,29 +229,69 @@ impl Parts {
         }
     }
 
-    /// Takes steps of a processor's turn, while they are of the fast path: first those that are the least, then those that are ahead of their turn.
-    /// The answer is whether its turn is over.
+    /// Takes steps of a processor's turn, while they are of the fast path and its line is down: first those that are the least, then those that are
+    /// ahead of their turn. The answer is whether its turn is over.
     #[inline(always)]
-    pub fn go_fast(&mut self, proc: Proc, until: Tick, end: u64, limit: u64) -> bool
+    fn go_both(&mut self, proc: Proc, until: Tick, end: u64, limit: u64) -> bool
         requires early { until.0 ≤ 2 ^ 56 }
-        requires goes { GoesFast until.0 proc end limit self.old }
-        ensures went { WentOn until.0 proc end limit self.old self.new }
+        requires goes { GoesFast until.0 proc end limit false self.old }
+        ensures went { WentOn until.0 proc end limit false self.old self.new }
         ensures over { result ≡ true → BelongsToTurn until.0 self.new proc → ⊥ }
     {
         'steps: loop {
             if limit <= self.processor(proc).due {
                 return self.go_ahead(proc, until, end, limit);
             }
-            match self.step_least::<Singles<0>>(proc, until, end, limit) {
+            match self.step_least::<Singles<0>>(proc, until, end, limit, false) {
                 Gone::Took => {}
                 Gone::Over => return true,
                 Gone::Unknown => return false,
-                Gone::List => match self.step_list(proc, until, end, limit) {
+                Gone::List => match self.step_list_least(proc, until, end, limit, false) {
                     Gone::Took => {}
                     Gone::Over => return true,
                     Gone::Unknown | Gone::List => return false,
                 },
             }
         }
+    }
+
+    /// The same where its line is up: while I is set, as in a handler before it acknowledges its interrupt, for which each step asks. None is ahead of
+    /// its turn. It stands out of line, with a copy of its own of all that a step runs.
+    #[inline(never)]
+    fn go_masked(&mut self, proc: Proc, until: Tick, end: u64, limit: u64) -> bool
+        requires early { until.0 ≤ 2 ^ 56 }
+        requires goes { GoesFast until.0 proc end limit true self.old }
+        ensures went { WentOn until.0 proc end limit true self.old self.new }
+        ensures over { result ≡ true → BelongsToTurn until.0 self.new proc → ⊥ }
+    {
+        'steps: loop {
+            if self.processor(proc).due >= limit {
+                return true;
+            }
+            match self.step_least::<Singles<2>>(proc, until, end, limit, true) {
+                Gone::Took => {}
+                Gone::Over => return true,
+                Gone::Unknown => return false,
+                Gone::List => match self.step_list_least(proc, until, end, limit, true) {
+                    Gone::Took => {}
+                    Gone::Over => return true,
+                    Gone::Unknown | Gone::List => return false,
+                },
+            }
+        }
+    }
+
+    /// Takes steps of a processor's turn, while they are of the fast path, told whether its line is up. The answer is whether its turn is over.
+    #[inline(always)]
+    pub fn go_fast(&mut self, proc: Proc, until: Tick, end: u64, limit: u64, up: bool) -> bool
+        requires early { until.0 ≤ 2 ^ 56 }
+        requires goes { GoesFast until.0 proc end limit up self.old }
+        ensures went { WentOn until.0 proc end limit up self.old self.new }
+        ensures over { result ≡ true → BelongsToTurn until.0 self.new proc → ⊥ }
+    {
+        if up {
+            return self.go_masked(proc, until, end, limit);
+        }
+        self.go_both(proc, until, end, limit)
     }
 }

@@ -197,8 +197,8 @@ impl Machine {
     /// A processor takes steps of its turn with a limit, while they are of the fast path; by the first tick at which it isn't the least acting one
     /// any more, and the first at which an event acts, or 0 where that isn't known. The answer is whether its turn is over; where it isn't known to
     /// be, `belongs_by` tells it, and the next step, where it belongs to the turn, is to be taken by `step`. No unit behind the ports changes: so no
-    /// frame becomes whole, no lists are swapped, and every other actor stays due when it was. What is kept stays as it is. Where the processor's
-    /// interrupt line is up none is taken: the line is asked for once a turn, since no step changes it, and a step may clear I.
+    /// frame becomes whole, no lists are swapped, and every other actor stays due when it was. What is kept stays as it is. Whether the
+    /// processor's interrupt line is up is asked for once a turn, since no step changes it; where it is, each step asks for I.
     #[inline(always)]
     pub fn go_fast(&mut self, proc: Proc, until: Tick, end: u64, limit: u64) -> bool
         requires running { IsRunning last_limit self.old }
@@ -212,10 +212,8 @@ impl Machine {
         ensures end { 0 < end → IsTurnEnd until.0 self.new end }
         ensures other { due_or_never self.new (other_proc proc) ≡ due_or_never self.old (other_proc proc) }
     {
-        if self.next_event.line(proc) {
-            return false;
-        }
-        self.parts.go_fast(proc, until, end, limit)
+        let up = self.next_event.line(proc);
+        self.parts.go_fast(proc, until, end, limit, up)
     }
 
     /// The first tick at which a processor that isn't blocked isn't the least acting actor, or isn't due below a limit, any more, while it alone

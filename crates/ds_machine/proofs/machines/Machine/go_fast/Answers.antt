@@ -1,5 +1,5 @@
 use Rattle.ds_machine.proofs.Words.{sym, ◌∙◌, ap, subst, other_proc, MachineState, TakesSteps, IsRunning, last_limit}
-use Rattle.ds_machine.proofs.Words.{no_steps, HasLimit, IsTurnEnd, due_or_never}
+use Rattle.ds_machine.proofs.Words.{HasLimit, IsTurnEnd, due_or_never}
 use Rattle.std.specs.Prelude.{◌<◌}
 use Rattle.ds_machine.proofs.EndTicks.{other_never}
 use Rattle.ds_machine.proofs.FastSteps.{kept_stays}
@@ -7,18 +7,9 @@ use Rattle.ds_machine.proofs.FastTurns.{leaves_others}
 use Rattle.ds_machine.proofs.GoingSteps.{line_is, statuses_taken}
 use Rattle.ds_machine.proofs.machines.Machine.go_fast.Goals as goal
 
-pub returns-then-line-clause-steps : goal.returns-then-line-clause-steps
-returns-then-line-clause-steps c = no_steps c.args.self.now
-
-pub returns-then-line-clause-limit : goal.returns-then-line-clause-limit
-returns-then-line-clause-limit c = c.requires.limit
-
-pub returns-then-line-clause-end : goal.returns-then-line-clause-end
-returns-then-line-clause-end c = c.requires.end
-
 pub go_fast-requires-clause-goes : goal.go_fast-requires-clause-goes
 go_fast-requires-clause-goes c = record {
-  down = sym (line_is c.self.inside.next_event c.self.inside.parts c.self.invariant.0 c.args.proc) ∙ sym c.line.ensures ∙ c.if-line.false;
+  line = sym (line_is c.self.inside.next_event c.self.inside.parts c.self.invariant.0 c.args.proc) ∙ sym c.line-up.ensures;
   events = subst (λ (m : MachineState). 0 < c.args.end → IsTurnEnd c.args.until.0 m c.args.end) (sym c.self.view_is) c.requires.end;
   least = subst (λ (m : MachineState). HasLimit c.args.until.0 m c.args.proc c.args.limit) (sym c.self.view_is) c.requires.limit;
   running = subst (IsRunning last_limit) (sym c.self.view_is) c.requires.running;
@@ -42,6 +33,6 @@ returns c =
       io = went.io ∙ ap (λ (m : MachineState). m.io) c.self.view_is;
       limit = went.goes.least;
       end = went.goes.events;
-      other = other_never c.self.inside.parts now c.args.proc (leaves_others until c.args.proc c.args.end c.args.limit c.self.inside.parts now went)
+      other = other_never c.self.inside.parts now c.args.proc (leaves_others until c.args.proc c.args.end c.args.limit c.line-up.result c.self.inside.parts now went)
           ∙ ap (λ (m : MachineState). due_or_never m (other_proc c.args.proc)) c.self.view_is;
     }

@@ -1,18 +1,17 @@
-use Rattle.ds_machine.proofs.FastTurns.{went_more, went_none, went_same, went_then}
+use Rattle.ds_machine.proofs.Words.{Bool, sym, subst}
+use Rattle.ds_machine.specs.NextEvents.{GoesFast, WentOn}
 use Rattle.ds_machine.proofs.parts.Parts.go_fast.Goals as goal
 
-pub steps-init : goal.steps-init
-steps-init c = went_none c.args.until.0 c.args.proc c.args.end c.args.limit c.args.self.now c.requires.goes
+pub go_masked-requires-clause-goes : goal.go_masked-requires-clause-goes
+go_masked-requires-clause-goes c = subst (λ (b : Bool). GoesFast c.args.until.0 c.args.proc c.args.end c.args.limit b c.args.self.now) c.if-up.true c.requires.goes
 
-pub returns-then-limit-processor-clause-went : goal.returns-then-limit-processor-clause-went
-returns-then-limit-processor-clause-went c =
-    went_then c.args.until.0 c.args.proc c.args.end c.args.limit c.args.self.now c.steps.self c.go_ahead.new.self c.steps.invariant c.go_ahead.ensures.went
+pub returns-then-up-clause-went : goal.returns-then-up-clause-went
+returns-then-up-clause-went c =
+    subst (λ (b : Bool). WentOn c.args.until.0 c.args.proc c.args.end c.args.limit b c.args.self.now c.go_masked.new.self) (sym c.if-up.true) c.go_masked.ensures.went
 
-pub steps-preserved-in-Took : goal.steps-preserved-in-Took
-steps-preserved-in-Took c =
-    went_more c.args.until.0 c.args.proc c.args.end c.args.limit c.args.self.now c.steps.self c.step_least.new.self c.steps.invariant c.in-Took.ensures
+pub go_both-requires-clause-goes : goal.go_both-requires-clause-goes
+go_both-requires-clause-goes c = subst (λ (b : Bool). GoesFast c.args.until.0 c.args.proc c.args.end c.args.limit b c.args.self.now) c.if-up.false c.requires.goes
 
-pub steps-preserved : goal.steps-preserved
-steps-preserved c =
-    let here = went_same c.args.until.0 c.args.proc c.args.end c.args.limit c.args.self.now c.steps.self c.step_least.new.self c.steps.invariant c.in-List.ensures in
-    went_more c.args.until.0 c.args.proc c.args.end c.args.limit c.args.self.now c.step_least.new.self c.step_list.new.self here c.in-Took-step_list.ensures
+pub returns-clause-went : goal.returns-clause-went
+returns-clause-went c =
+    subst (λ (b : Bool). WentOn c.args.until.0 c.args.proc c.args.end c.args.limit b c.args.self.now c.go_both.new.self) (sym c.if-up.false) c.go_both.ensures.went

@@ -1,4 +1,4 @@
-use Rattle.ds_machine.proofs.Words.{ℕ, ◌<◌, inl, inr, refl, sym, ◌∙◌, ap, subst, arith, Cost, ProcessorState, tick_of}
+use Rattle.ds_machine.proofs.Words.{ℕ, ◌<◌, inl, inr, false, refl, sym, ◌∙◌, ap, subst, arith, Cost, ProcessorState, tick_of}
 use Rattle.arm_core.specs.declared.outcomes.Stepped as arm
 use Rattle.ds_machine.proofs.FastTurns.{is_due, over_at_end, over_past, went_fast}
 use Rattle.ds_machine.proofs.GoingSteps.{ahead_data, ahead_if, ahead_may}
@@ -9,7 +9,7 @@ use Rattle.ds_machine.proofs.Running.{few_steps}
 use Rattle.ds_machine.proofs.parts.Parts.step_ahead.Goals as goal
 
 pub may_go_on-requires : goal.may_go_on-requires
-may_go_on-requires g c = record { down = c.requires.goes.down; end = c.requires.goes.events }
+may_go_on-requires g c = record { down = c.requires.goes.line; end = c.requires.goes.events }
 
 pub returns-then-not-may_go_on : goal.returns-then-not-may_go_on
 returns-then-not-may_go_on g c = (
@@ -21,10 +21,10 @@ returns-then-not-may_go_on g c = (
       let past = c.requires.past in
       let due = ap (λ (p : ProcessorState). p.due) c.processor.ensures in
       elim (c.may_go_on.ensures.no c.if-not-may_go_on.true) [
-        | inl le ↦ over_at_end s proc until c.args.end c.args.limit n c.requires.goes due c.requires.early le b
+        | inl le ↦ over_at_end s proc until c.args.end c.args.limit false n c.requires.goes due c.requires.early le b
         | inr k ↦
-            over_past s proc until c.args.end c.args.limit n c.requires.goes due c.requires.early (omega (arith, due, past))
-            (λ lt ahead. k (ahead_may s proc n (is_due s proc until c.args.end c.args.limit n c.requires.goes due c.requires.early) ahead)) b
+            over_past s proc until c.args.end c.args.limit false n c.requires.goes due c.requires.early (omega (arith, due, past))
+            (λ lt ahead. k (ahead_may s proc n (is_due s proc until c.args.end c.args.limit false n c.requires.goes due c.requires.early) ahead)) b
       ]),
   refl,
 )
@@ -36,7 +36,7 @@ take_fast-fast-requires-clause-early g c =
     omega (arith, lt, early)
 
 pub take_fast-fast-requires-clause-line : goal.take_fast-fast-requires-clause-line
-take_fast-fast-requires-clause-line g c = sym c.requires.goes.down
+take_fast-fast-requires-clause-line g c = sym c.requires.goes.line
 
 pub take_fast-fast-requires-clause-room : goal.take_fast-fast-requires-clause-room
 take_fast-fast-requires-clause-room g c =
@@ -51,9 +51,9 @@ returns-then-fast g c = (
       let n = c.processor.result.now.due in
       let past = c.requires.past in
       let due = ap (λ (p : ProcessorState). p.due) c.processor.ensures in
-      over_past s proc until c.args.end c.args.limit n c.requires.goes due c.requires.early (omega (arith, due, past))
+      over_past s proc until c.args.end c.args.limit false n c.requires.goes due c.requires.early (omega (arith, due, past))
       (λ lt ahead. c.take_fast-fast.ensures.leaves c.if-fast.true
-      (ahead_data s proc n (is_due s proc until c.args.end c.args.limit n c.requires.goes due c.requires.early) ahead)) b),
+      (ahead_data s proc n (is_due s proc until c.args.end c.args.limit false n c.requires.goes due c.requires.early) ahead)) b),
   c.take_fast-fast.ensures.none (c.take_fast-fast.ensures.left c.if-fast.true).0,
 )
 
@@ -89,7 +89,7 @@ returns g c =
     let some : 0 < c.take_fast-fast.result.clocks = (let more = c.if-fast-eq0.false in omega (arith, more)) in
     let fast = c.take_fast-fast.ensures in
     let k = c.may_go_on.ensures.yes c.if-not-may_go_on.false in
-    let d = is_due s proc until c.args.end c.args.limit n c.requires.goes due early in
-    went_fast s proc until c.args.end c.args.limit n c.requires.goes due early c.take_fast-fast.new.self c.go_on.new.self
+    let d = is_due s proc until c.args.end c.args.limit false n c.requires.goes due early in
+    went_fast s proc until c.args.end c.args.limit false n c.requires.goes due early c.take_fast-fast.new.self c.go_on.new.self
     c.few_ticks_of.result k.0 (inr (ahead_if s proc n d k.1 (fast.stays refl some))) (fast.machine some) (fast.stepped some ∙ ap cost (sym c.few_ticks_of.ensures.value))
     fast.io c.go_on.ensures (fast.near some)

@@ -13,11 +13,11 @@ take_fast-fast-requires-clause-early g c =
     let early = c.requires.early in
     let least = c.requires.least in
     let due = ap (λ (p : ProcessorState). p.due) c.processor.ensures in
-    let lt = below_turn c.args.self.now c.args.proc c.args.until.0 c.args.end c.args.limit n c.requires.goes due early (omega (arith, due, least)) in
+    let lt = below_turn c.args.self.now c.args.proc c.args.until.0 c.args.end c.args.limit c.args.up n c.requires.goes due early (omega (arith, due, least)) in
     omega (arith, lt, early)
 
 pub take_fast-fast-requires-clause-line : goal.take_fast-fast-requires-clause-line
-take_fast-fast-requires-clause-line g c = sym c.requires.goes.down
+take_fast-fast-requires-clause-line g c = sym c.requires.goes.line
 
 pub take_fast-fast-requires-clause-room : goal.take_fast-fast-requires-clause-room
 take_fast-fast-requires-clause-room g c =
@@ -35,7 +35,7 @@ go_on-requires-clause-early g c =
     let least = c.requires.least in
     let due = ap (λ (p : ProcessorState). p.due) c.processor.ensures in
     let some : 0 < c.take_fast-fast.result.clocks = (let more = c.if-fast-eq0.false in omega (arith, more)) in
-    let lt = below_turn c.args.self.now c.args.proc c.args.until.0 c.args.end c.args.limit n c.requires.goes due early (omega (arith, due, least)) in
+    let lt = below_turn c.args.self.now c.args.proc c.args.until.0 c.args.end c.args.limit c.args.up n c.requires.goes due early (omega (arith, due, least)) in
     reached_early c.args.proc (record { 0 = n }) c.args.self.now c.take_fast-fast.new.self (c.take_fast-fast.ensures.machine some) (ap tick_of c.processor.ensures)
     (omega (arith, lt, early))
 
@@ -58,7 +58,7 @@ returns g c =
     let some : 0 < c.take_fast-fast.result.clocks = (let more = c.if-fast-eq0.false in omega (arith, more)) in
     let fast = c.take_fast-fast.ensures in
     let before : n < c.args.limit = omega (arith, due, least) in
-    went_fast s proc until c.args.end c.args.limit n c.requires.goes due early c.take_fast-fast.new.self c.go_on.new.self
-    c.few_ticks_of.result (below_turn s proc until c.args.end c.args.limit n c.requires.goes due early before)
-    (inl (least_now s proc until c.args.end c.args.limit n c.requires.goes due early before)) (fast.machine some) (fast.stepped some ∙ ap cost (sym c.few_ticks_of.ensures.value))
+    went_fast s proc until c.args.end c.args.limit c.args.up n c.requires.goes due early c.take_fast-fast.new.self c.go_on.new.self
+    c.few_ticks_of.result (below_turn s proc until c.args.end c.args.limit c.args.up n c.requires.goes due early before)
+    (inl (least_now s proc until c.args.end c.args.limit c.args.up n c.requires.goes due early before)) (fast.machine some) (fast.stepped some ∙ ap cost (sym c.few_ticks_of.ensures.value))
     fast.io c.go_on.ensures (fast.near some)

@@ -1,9 +1,9 @@
-use Rattle.ds_machine.proofs.Words.{ℕ, ◌≡◌, ◌≢◌, ◌<◌, ◌⊎◌, inl, inr, Bool, true, false, if◌then◌else◌, List, [], ◌∷◌, ◌++◌, map, length, Option, Some}
-use Rattle.ds_machine.proofs.Words.{None, refl, sym, ◌∙◌, ap, arith, none-some, same_or_not, Proc, Nine, Seven, Due, Tick, scan_due_tick, is_quiet}
-use Rattle.ds_machine.proofs.Words.{actor_of, actors, due_with_rank, earlier, first_from, IsLeast, due_at, Geometry, due_of_actor, actors_differ}
-use Rattle.ds_machine.proofs.Words.{within, acting_due, acting_dues, acting_events_of, rank_of, due_by, dues_of, processor_due, MachineState}
+use Rattle.ds_machine.proofs.Words.{Bool, Due, Geometry, IsLeast, List, MachineState, Nine, None, Option, Proc, Seven, Some, Tick, [], acting_due}
+use Rattle.ds_machine.proofs.Words.{acting_dues, acting_events_of, actor_of, actors, actors_differ, ap, arith, due_at, due_by, due_of_actor}
+use Rattle.ds_machine.proofs.Words.{due_of_rank, due_with_rank, dues_of, earlier, false, first_from, if◌then◌else◌, inl, inr, is_quiet}
+use Rattle.ds_machine.proofs.Words.{least_by_parts, length, low_rank, map, none-some, processor_due, rank_of, refl, same_or_not, scan_due_tick, sym}
+use Rattle.ds_machine.proofs.Words.{true, within, ℕ, ◌++◌, ◌<◌, ◌∙◌, ◌∷◌, ◌≡◌, ◌≢◌, ◌⊎◌}
 use Rattle.ds_runs.specs.declared.actors.Actor as actor
-use Rattle.ds_machine.proofs.DueTicks.{due_of_rank, least_by_parts, low_rank}
 
 -- When the actors act: as a list and by actors, and beside when all are due.
 

@@ -1,12 +1,11 @@
-use Rattle.ds_machine.proofs.Words.{ℕ, ◌≡◌, ◌≢◌, ◌<◌, ◌≤◌, ◌+◌, ◌-◌, ◌*◌, ◌⊎◌, inl, inr, true, List, [], Option, Some, sym, ◌∙◌, ap, subst, arith}
-use Rattle.ds_machine.proofs.Words.{none-some, same_or_not, true_or_false, Proc, Nine, Seven, Tick, is_quiet, actor_of, IsLeast, Makes, due_at}
-use Rattle.ds_machine.proofs.Words.{Geometry, actors_differ, is_numbered, is_later, acting_due, acting_dues, ActsUnobserving, IsAhead, rank_of, Shown}
-use Rattle.ds_machine.proofs.Words.{due_by, reference_step, IsSound, MachineState, same_makes}
+use Rattle.ds_machine.proofs.Words.{ActsUnobserving, Geometry, IsAhead, IsLeast, IsSound, List, MachineState, Makes, Nine, Option, Proc, Seven, Shown}
+use Rattle.ds_machine.proofs.Words.{Some, Tick, [], acting_due, acting_dues, actor_of, actors_differ, ap, arith, due_at, due_by, due_of_rank, inl}
+use Rattle.ds_machine.proofs.Words.{inr, is_later, is_numbered, is_quiet, none-some, rank_of, reference_step, same_makes, same_or_not, subst, sym}
+use Rattle.ds_machine.proofs.Words.{true, true_or_false, ℕ, ◌*◌, ◌+◌, ◌-◌, ◌<◌, ◌∙◌, ◌≡◌, ◌≢◌, ◌≤◌, ◌⊎◌}
 use Rattle.ds_runs.specs.ScheduleLaws.{places_remaining}
 use Rattle.ds_runs.proofs.Places.{remaining_at, remaining_below}
 use Rattle.ds_machine.proofs.ActingDues.{acting_low, acting_of_rank, acts_where_due, due_where_acts, loud_by}
 use Rattle.ds_machine.proofs.ActingSteps.{Acted, CaughtUp, caught_steps, caught_up}
-use Rattle.ds_machine.proofs.DueTicks.{due_of_rank}
 use Rattle.ds_machine.proofs.InnerLaw.{private_is_harmless}
 use Rattle.ds_machine.proofs.LagSteps.{quiet_acts_never}
 use Rattle.ds_machine.proofs.MachineSchedule.{Steps, owes_as}

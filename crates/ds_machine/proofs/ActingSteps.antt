@@ -1,19 +1,18 @@
-use Rattle.ds_machine.proofs.Words.{ℕ, ◌≡◌, ◌<◌, ◌≤◌, ◌^◌, ◌⊎◌, inl, inr, Bool, true, false, true≢false, List, ◌++◌, Option, Some, refl, sym, ◌∙◌, ap}
-use Rattle.ds_machine.proofs.Words.{subst, arith, [], ◌↔◌, last_or, none-some, same_or_not, true_or_false, HasNineStatuses, HasStatuses, LeftOut, V4}
-use Rattle.ds_machine.proofs.Words.{Proc, Nine, Seven, Tick, actor_of, Ending, IsLeast, MachineStep, Makes, Runs, Stops, due_at, actors_differ}
-use Rattle.ds_machine.proofs.Words.{one_step, same_makes, not_both, is_quiet, acting_dues, FollowFrames, FollowLists, WholeFrame, frames_shown}
-use Rattle.ds_machine.proofs.Words.{last_frame, last_lists, lists_shown, ActsUnobserving, CatchesUpFor, CatchesUpIf, ComesBeforeAll}
-use Rattle.ds_machine.proofs.Words.{StepsBeforeGeometry, TakesGeometry, no_geometry, observes_by, IsAhead, rank_of, Shown, dues_of, processor_due}
-use Rattle.ds_machine.proofs.Words.{reference, reference_step, IsSound, MachineState, NineState, SevenState, counts_of, HasBothStatuses, left_by}
-use Rattle.ds_machine.proofs.Words.{processor_of, MayAct, MayStep, Swapped}
-use Rattle.ds_runs.specs.Runs.{Stopped}
+use Rattle.ds_machine.proofs.Words.{ActsUnobserving, Bool, CatchesUpFor, CatchesUpIf, ComesBeforeAll, Ending, HasBothStatuses, HasNineStatuses}
+use Rattle.ds_machine.proofs.Words.{HasStatuses, IsAhead, IsLeast, IsSound, LeftOut, List, MachineState, MachineStep, Makes, MayAct, MayStep, Nine}
+use Rattle.ds_machine.proofs.Words.{NineState, Option, Proc, Runs, Seven, SevenState, Shown, Some, StepsBeforeGeometry, Stopped, Stops, Swapped}
+use Rattle.ds_machine.proofs.Words.{TakesGeometry, Tick, V4, WholeFrame, [], acting_dues, actor_of, actors_differ, ap, arith, counts_of, due_at}
+use Rattle.ds_machine.proofs.Words.{due_of_rank, dues_of, false, frames_shown, inl, inr, is_quiet, last_frame, last_lists, last_or, left_by}
+use Rattle.ds_machine.proofs.Words.{lists_shown, no_geometry, none-some, not_both, observes_by, one_step, own_tick, processor_due, processor_of}
+use Rattle.ds_machine.proofs.Words.{rank_of, reference, reference_step, refl, same_makes, same_or_not, subst, sym, true, true_or_false, true≢false, ℕ}
+use Rattle.ds_machine.proofs.Words.{◌++◌, ◌<◌, ◌^◌, ◌↔◌, ◌∙◌, ◌≡◌, ◌≤◌, ◌⊎◌}
+use Rattle.ds_machine.specs.FrameLaws.{FollowFrames, FollowLists}
 use Rattle.ds_runs.specs.Runs as runs
 use Rattle.ds_machine.specs.TurnLaws.{ActingMayStep, ActingRuns, ActingStops}
 use Rattle.ds_machine.proofs.ActingDues.{acting_low, acting_of_rank, due_where_acts, loud_same}
 use Rattle.ds_machine.proofs.AheadRuns.{ahead_runs, ahead_steps}
 use Rattle.ds_machine.proofs.CatchingUp.{CaughtSo, catching_up_runs, caught_least, caught_so, comes_first}
 use Rattle.ds_machine.proofs.CountSteps.{one_more_as, stop_counts}
-use Rattle.ds_machine.proofs.DueTicks.{due_of_rank, own_tick}
 use Rattle.ds_machine.proofs.Frames.{follows_as, stop_keeps_as}
 use Rattle.ds_machine.proofs.LagLaw.{lag_runs, lag_stops}
 use Rattle.ds_machine.proofs.LagSteps.{quiet_acts_never}

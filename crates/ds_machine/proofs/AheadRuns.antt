@@ -1,5 +1,4 @@
-use Rattle.ds_machine.proofs.Words.{refl, Proc, RunsAhead, IsAhead, rank_of, reference, IsSound, MachineState, processor_of, tick_of}
-use Rattle.ds_runs.proofs.Ahead.{ahead_agrees}
+use Rattle.ds_machine.proofs.Words.{IsAhead, IsSound, MachineState, Proc, RunsAhead, ahead_agrees, processor_of, rank_of, reference, refl, tick_of}
 use Rattle.ds_machine.specs.PrivateLaws.{AheadRuns, AheadSteps}
 use Rattle.ds_machine.proofs.InnerLaw.{private_is_harmless}
 use Rattle.ds_machine.proofs.OuterLaw.{may_run_ahead}

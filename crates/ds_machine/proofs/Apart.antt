@@ -1,6 +1,6 @@
-use Rattle.ds_machine.proofs.Words.{ℕ, ◌≡◌, ◌≢◌, Bool, true, false, true≢false, List, [], ◌∷◌, refl, sym, ap, Nine, Seven, Video, Dma, Processor}
-use Rattle.ds_machine.proofs.Words.{with_seven_part, Fences, step_by, MachineState, SevenState, left_by, Cp15, DueNine, DueSeven, OwnRam, PartSet}
-use Rattle.ds_machine.proofs.Words.{RegistersNine, RegistersSeven, StepsNine, StepsSeven, machine_graft, step_with, untouched_by}
+use Rattle.ds_machine.proofs.Words.{Bool, Cp15, Dma, DueNine, DueSeven, Fences, List, MachineState, Nine, OwnRam, PartSet, Processor, RegistersNine}
+use Rattle.ds_machine.proofs.Words.{RegistersSeven, Seven, SevenState, StepsNine, StepsSeven, Video, [], ap, false, left_by, machine_graft, refl}
+use Rattle.ds_machine.proofs.Words.{step_by, step_with, sym, true, true≢false, untouched_by, with_seven_part, ℕ, ◌∷◌, ◌≡◌, ◌≢◌}
 use Rattle.ds_base.specs.Deeds.{pick}
 use Rattle.ds_runs.specs.declared.actors.Actor as actor
 use Rattle.ds_machine.specs.Touched.{Dtcm, Itcm, MachinePart}

@@ -1,26 +1,15 @@
-use Rattle.std.proofs.Common.{ℕ, ◌≡◌, ◌≤◌, ◌<◌, ◌+◌, List, length, take, refl, sym, ◌∙◌, subst, arith, zero, suc, drop, min, true≢false}
+use Rattle.ds_machine.proofs.Words.{AreKeyLines, AreWaiting, HasSoundParts, IoState, IsAccepted, IsChannel, IsDma, IsIo, IsProcessorIo, KeyLine, List}
+use Rattle.ds_machine.proofs.Words.{MachineState, Nine, Proc, Seven, arith, channel_at, channel_at_boot, dma_at_boot, drop, header_bytes}
+use Rattle.ds_machine.proofs.Words.{header_place, image_of, image_place, io_at_boot, length, machine_blank, machine_booted, min, processor_io_at_boot}
+use Rattle.ds_machine.proofs.Words.{refl, subst, suc, sym, take, timer_at, timers_at_boot, true≢false, with_image, zero, ℕ, ◌+◌, ◌<◌, ◌∙◌, ◌≡◌, ◌≤◌}
 use Rattle.std.specs.Int.Bits.{and_zero_l}
 use Rattle.std.proofs.lemmas.List.{length-take}
-use Rattle.ds_base.specs.KeyLines.{AreKeyLines}
-use Rattle.ds_base.specs.declared.keys.KeyLine.{KeyLine}
-use Rattle.ds_base.specs.declared.processors.Proc.{Proc}
-use Rattle.ds_base.specs.declared.processors.Proc.TheVariants.{Nine, Seven}
-use Rattle.ds_dma.specs.Channels.{IsChannel, channel_at_boot}
 use Rattle.ds_dma.specs.Controls.{channel_control_mask, kept_channel_control}
-use Rattle.ds_dma.specs.States.{IsDma, channel_at, dma_at_boot}
-use Rattle.ds_header.specs.Fields.{image_length, image_of, image_offset, image_place}
-use Rattle.ds_header.specs.Rules.{IsAccepted}
+use Rattle.ds_header.specs.Fields.{image_length, image_offset}
 use Rattle.ds_header.proofs.Accepted.{image_goes}
-use Rattle.ds_timers.specs.Timing.{AreTimers, IsTimer, timer_at, timers_at_boot}
-use Rattle.ds_ports.specs.HappeningLaws.{IsIo, IsProcessorIo}
-use Rattle.ds_ports.specs.declared.units.IoParts.{IoParts as IoState}
-use Rattle.ds_ports.specs.Io.{io_at_boot}
-use Rattle.ds_ports.specs.ProcessorIo.{processor_io_at_boot}
-use Rattle.gx_fifo.specs.GxStates.{AreWaiting, gx_at_boot}
+use Rattle.ds_timers.specs.Timing.{AreTimers, IsTimer}
+use Rattle.gx_fifo.specs.GxStates.{gx_at_boot}
 use Rattle.gx_matrix.specs.CommandTable.{command_of}
-use Rattle.ds_machine.specs.Booted.{header_bytes, header_place, machine_blank, machine_booted, with_image}
-use Rattle.ds_machine.specs.Sound.{HasSoundParts}
-use Rattle.ds_machine.specs.States.{MachineState}
 use Rattle.ds_machine.proofs.Booting.{copied_io, image_lies}
 
 -- The parts of a machine at boot are sound.

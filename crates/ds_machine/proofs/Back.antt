@@ -1,17 +1,18 @@
-use Rattle.ds_machine.proofs.Words.{ℕ, ◌≡◌, ◌<◌, ◌≤◌, ◌+◌, ◌-◌, ◌==◌, ◌^◌, nat_lt, max, Bool, true, false, if◌then◌else◌, bit_and, bit_or, List, []}
-use Rattle.ds_machine.proofs.Words.{◌∷◌, length, Option, Some, None, inl, inr, true≢false, refl, sym, ◌∙◌, ap, subst, arith, ◌&&◌, ◌||◌, not, IfSome}
-use Rattle.ds_machine.proofs.Words.{AllByRecursion, bit_at, bit_not, w32, bit_at-zero, bit_at_and, bit_at_or, same_from_bits, both, both_true, equal}
-use Rattle.ds_machine.proofs.Words.{if_false, if_true, is_equal, low_or_high, lt_cases, not_false, memory_size, due_number, KeyLine, Shared, Own7}
-use Rattle.ds_machine.proofs.Words.{Palette, Oam, Arch, V4, V5, Proc, Nine, Seven, Tick, registers_format, card_due, dma_format_by, ready, DmaState}
-use Rattle.ds_machine.proofs.Words.{any_runs, awaits_geometry, channel_at, channel_due, dma_due, due_with, last_tick, least_running, DmaDue, held_due}
-use Rattle.ds_machine.proofs.Words.{IoState, channel_comes_before, io_of, release_of, blocks_processor, IsBy, IsPastBy, IsSoonBy, actor_of, IsOver}
-use Rattle.ds_machine.proofs.Words.{kept_twice, soon, word_format, StandsFor, IrqState, IsIrq, events, irq_levelled, level, shares_bit, timer_at}
-use Rattle.ds_machine.proofs.Words.{timer_due, gx_level, is_half_empty, is_stalled, waiting_entries, holds_by, scans_follow, ScanState, scan_before}
-use Rattle.ds_machine.proofs.Words.{scan_due, scan_due_tick, HasMachineBounds, due_by, due_unless, dues_of, Around, SavedProcessor, asked_of}
-use Rattle.ds_machine.proofs.Words.{channels_format, is_late, machine_format, machine_parts, memories_format, processor_format, processors_format}
-use Rattle.ds_machine.proofs.Words.{released_again, saved_channels, saved_memories, saved_processors, saved_units, script_from, units_format, IsSound}
-use Rattle.ds_machine.proofs.Words.{MachineState, ProcessorState, processor_of, tick_of, IsWithinTick, around_of, zero, suc, dma_format, late_runs_by}
-use Rattle.ds_machine.proofs.Words.{sleeps_by}
+use Rattle.ds_machine.proofs.Words.{AllByRecursion, Arch, Around, Bool, DmaDue, DmaState, IfSome, IoState, IrqState, IsBy, IsCardAt, IsIrq, IsOver}
+use Rattle.ds_machine.proofs.Words.{IsPastBy, IsSoonBy, IsSound, IsWithinTick, KeyLine, List, MachineState, Nine, None, Oam, Option, Own7, Palette}
+use Rattle.ds_machine.proofs.Words.{Proc, ProcessorState, SavedProcessor, ScanState, Seven, Shared, Some, StandsFor, Tick, V4, V5, [], actor_of}
+use Rattle.ds_machine.proofs.Words.{any_runs, ap, arith, around_of, asked_of, awaits_geometry, bit_and, bit_at, bit_at-zero, bit_at_and, bit_at_or}
+use Rattle.ds_machine.proofs.Words.{bit_not, bit_or, blocks_processor, both, both_true, card_due, card_stands, channel_at, channel_comes_before}
+use Rattle.ds_machine.proofs.Words.{channel_due, channels_format, comes_back, dma_due, dma_format, dma_format_by, dma_stands, due_by, due_number}
+use Rattle.ds_machine.proofs.Words.{due_of_rank, due_unless, due_with, dues_of, equal, events, false, gx_level, held_due, holds_by, if_false, if_true}
+use Rattle.ds_machine.proofs.Words.{if◌then◌else◌, inl, inr, io_of, irq_levelled, is_equal, is_half_empty, is_late, is_stalled, kept_twice, last_tick}
+use Rattle.ds_machine.proofs.Words.{late_runs_by, least_below, least_running, length, level, low_or_high, lt_cases, machine_format, machine_parts}
+use Rattle.ds_machine.proofs.Words.{max, memories_format, memory_size, nat_lt, not, not_false, processor_format, processor_of, processors_format}
+use Rattle.ds_machine.proofs.Words.{ready, refl, registers_format, release_of, released_again, same_from_bits, saved_channels, saved_memories}
+use Rattle.ds_machine.proofs.Words.{saved_processor, saved_processors, saved_units, scan_before, scan_due, scan_due_tick, scans_follow, script_from}
+use Rattle.ds_machine.proofs.Words.{shares_bit, sleeps_by, soon, subst, suc, sym, tick_of, timer_at, timer_due, true, true≢false, units_format, w32}
+use Rattle.ds_machine.proofs.Words.{waiting_entries, word_format, zero, ℕ, ◌&&◌, ◌+◌, ◌-◌, ◌<◌, ◌==◌, ◌^◌, ◌||◌, ◌∙◌, ◌∷◌, ◌≡◌, ◌≤◌}
+use Rattle.ds_machine.specs.Back.{HasMachineBounds, MachinesComeBack}
 use Rattle.std.proofs.lemmas.Nat.{and_le_l, and_le_r}
 use Rattle.std.proofs.lemmas.Nat.Bits.{bit_at-lt, bit_at_above, bit_at_not}
 use Rattle.ds_base.proofs.Choices.{equal_self, is_le, isnt_lt, lt_of}
@@ -19,15 +20,10 @@ use Rattle.ds_base.specs.declared.memories.Memory.{Memory}
 use Rattle.ds_base.specs.declared.memories.Memory.TheVariants.{Main, Itcm, Dtcm}
 use Rattle.arm_core.proofs.SavedLaws.{registers_stand}
 use Rattle.cp15_tcm.proofs.SavedLaws.{cp15_stands}
-use Rattle.ds_card.proofs.SavedLaws.{card_stands}
-use Rattle.ds_card.specs.Saved.{IsCardAt}
-use Rattle.ds_dma.proofs.SavedLaws.{dma_stands}
 use Rattle.ds_dma.specs.Saved.{AreTriggeredBy}
-use Rattle.ds_dma.proofs.Turns.{least_below}
 use Rattle.ds_ipc.proofs.SavedLaws.{ipc_stands}
 use Rattle.ds_math.proofs.SavedLaws.{divider_stands, root_stands}
 use Rattle.ds_state.proofs.Exact.{round_trips}
-use Rattle.gx_geometry.proofs.Opened.{comes_back}
 use Rattle.ds_machine.proofs.SavedParts.{machine_reads, machine_writes}
 use Rattle.ds_timers.proofs.SavedLaws.{irq_stands, timers_stand}
 use Rattle.ds_timers.specs.Saved.{IsAnchoredAt}
@@ -37,10 +33,7 @@ use Rattle.video2d.proofs.SavedLaws.{video_stands}
 use Rattle.video2d.specs.Saved.{IsSavedVideo}
 use Rattle.vram_banks.proofs.SavedLaws.{banks_stand}
 use Rattle.ds_machine.proofs.Pairs.{◌⨾◌}
-use Rattle.ds_machine.specs.Back.{MachinesComeBack}
 use Rattle.ds_machine.specs.Saved.{own_due, saved_size}
-use Rattle.ds_machine.specs.SavedParts.{saved_processor}
-use Rattle.ds_machine.proofs.DueTicks.{due_of_rank}
 
 -- A machine at a tick stands for its bytes.
 

@@ -1,10 +1,8 @@
-use Rattle.ds_machine.proofs.Words.{ℕ, ◌≡◌, ◌≤◌, ◌+◌, inl, inr, false, true, List, ◌∷◌, length, take, refl, sym, ◌∙◌, ap, arith, [], ◌&&◌, KeyLine}
-use Rattle.ds_machine.proofs.Words.{Byte, Proc, Nine, Seven, Tick, image_of, image_place, Tick, IoState, io_at_boot, io_of, is_settled, shares_bit}
-use Rattle.ds_machine.proofs.Words.{numbers_at_boot, header_bytes, header_place, machine_blank, with_header, with_image, copied, stored, AreAsleep}
-use Rattle.ds_machine.proofs.Words.{HasSoundParts, IsSound, IsRunning, run_of, MachineState, ProcessorState, counts_of, with_file, map_of}
-use Rattle.ds_machine.proofs.Words.{processor_of, if_false, nat_lt, script_from}
-use Rattle.ds_header.specs.Rules.{ImageLies}
-use Rattle.ds_machine.specs.Booted.{machine_booted}
+use Rattle.ds_machine.proofs.Words.{AreAsleep, Byte, HasSoundParts, ImageLies, IoState, IsRunning, IsSound, KeyLine, List, MachineState, Nine, Proc}
+use Rattle.ds_machine.proofs.Words.{ProcessorState, Seven, Tick, [], ap, arith, copied, counts_of, false, header_bytes, header_place, if_false}
+use Rattle.ds_machine.proofs.Words.{image_of, image_place, inl, inr, io_at_boot, io_of, is_settled, length, machine_blank, machine_booted, map_of}
+use Rattle.ds_machine.proofs.Words.{nat_lt, numbers_at_boot, processor_of, refl, run_of, script_from, shares_bit, stored, sym, take, true, with_file}
+use Rattle.ds_machine.proofs.Words.{with_header, with_image, ℕ, ◌&&◌, ◌+◌, ◌∙◌, ◌∷◌, ◌≡◌, ◌≤◌}
 use Rattle.ds_machine.proofs.RamAccesses.{ram_write_io}
 use Rattle.ds_machine.proofs.Running.{starts_running}
 

@@ -1,15 +1,13 @@
-use Rattle.ds_machine.proofs.Words.{ℕ, true, false, List, [], ◌∷◌, ◌++◌, Option, Some, None, ◌&&◌, IfSome, either, Access, Fetch, MemoryMachine}
-use Rattle.ds_machine.proofs.Words.{Performed, Read, Write, perform, refused_or, aligned_down, Stop, Vram, Width, Byte, Half, Word, Proc, Nine, Seven}
-use Rattle.ds_machine.proofs.Words.{Tick, data_port_at, CardState, CardHappens, CardPasses, and_taken, wrote, was_read, passed_none, passed_one}
-use Rattle.ds_machine.proofs.Words.{tcm_of, Tcm, Itcm, Dtcm, Past, after_read_at, is_byte_of_nine, map_read, map_written, takes_no_bytes, written_at}
-use Rattle.ds_machine.proofs.Words.{MapState, NineReach, SevenReach, nine_memory, seven_memory, tcm_read, tcm_written, place_of, Place, IoState}
-use Rattle.ds_machine.proofs.Words.{port_read, port_refusal, port_written, slot_read, unless_stopped, whole_in, slot_of, after_write, meaning_of}
-use Rattle.ds_machine.proofs.Words.{Register, Auxspicnt, CardData, CardWord, Slot, vram_written, map_word, place_word, register_word, slot_word}
-use Rattle.ds_machine.proofs.Words.{tcm_word}
+use Rattle.ds_machine.proofs.Words.{Access, Auxspicnt, Byte, CardData, CardHappens, CardPasses, CardState, CardWord, Dtcm, Fetch, Half, IfSome}
+use Rattle.ds_machine.proofs.Words.{IoState, Itcm, List, MapState, MemoryMachine, Nine, NineReach, None, Option, Past, Performed, Place, Proc, Read}
+use Rattle.ds_machine.proofs.Words.{Register, Seven, SevenReach, Slot, Some, Stop, Tcm, Tick, Vram, Width, Word, Write, [], after_read_at}
+use Rattle.ds_machine.proofs.Words.{after_write, aligned_down, and_taken, are_all, data_port_at, either, false, is_byte_of_nine, map_read}
+use Rattle.ds_machine.proofs.Words.{map_written, meaning_of, nine_memory, passed_none, passed_one, perform, place_of, refused_or, seven_memory}
+use Rattle.ds_machine.proofs.Words.{slot_of, takes_no_bytes, tcm_of, tcm_read, tcm_written, true, vram_written, was_read, write_leaves, written_at}
+use Rattle.ds_machine.proofs.Words.{wrote, ℕ, ◌&&◌, ◌++◌, ◌∷◌}
+use Rattle.ds_ports.specs.Ports.{port_read, port_refusal, port_written, slot_read, unless_stopped, whole_in}
+use Rattle.ds_machine.specs.CardSteps.{map_word, place_word, register_word, slot_word, tcm_word, nine_word, seven_word, words_along, words_unless}
 use Rattle.ds_places.specs.declared.kinds.Place.TheVariants as place
-use Rattle.ds_ports.proofs.Covered.{are_all, write_leaves}
-use Rattle.ds_machine.specs.CardSteps.{nine_word, seven_word}
-use Rattle.ds_machine.specs.CardSteps.{words_along, words_unless}
 
 -- Each access passes the card as the card's own law says, with the word that it takes; so do accesses that are made one after another.
 

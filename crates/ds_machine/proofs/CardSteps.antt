@@ -1,21 +1,19 @@
-use Rattle.ds_machine.proofs.Words.{ℕ, ◌≡◌, Bool, true, false, if◌then◌else◌, List, [], ◌∷◌, ◌++◌, Option, Some, None, Result, Ok, Err, refl, sym}
-use Rattle.ds_machine.proofs.Words.{◌∙◌, ap, subst, KeyLine, LeftOut, Stop, Proc, Nine, Seven, Tick, Cost, Halted, Left, CardState, card_after_event}
-use Rattle.ds_machine.proofs.Words.{card_due, card_starter, CardPasses, and_taken, came, passed_none, HBlank, VBlank, map_value, map_written}
-use Rattle.ds_machine.proofs.Words.{MapState, map_after_unit, next_unit, unit_read, unit_refusal, unit_taken, unit_waits, NineReach, SevenReach}
-use Rattle.ds_machine.proofs.Words.{nine_memory, seven_memory, io_due, IoState, both_raised, card_done_at, channel_moved, channels_triggered}
-use Rattle.ds_machine.proofs.Words.{shown_to_others, starter_told, video_done, actor_of, At, Ending, MachineStep, Makes, Runs, Stops, more, over}
-use Rattle.ds_machine.proofs.Words.{stops, KeyScript, Video, Timer, Card, Dma, Processor, map_word, channel_step, moved_by, nine_side, seven_side}
-use Rattle.ds_machine.proofs.Words.{Shown, after_line, awake, due_by, reference, step_by, swapped_if, video_step, step_accesses, MachineState}
-use Rattle.ds_machine.proofs.Words.{left_by, ended, goes_on, line_of, machine_concluded, machine_settled, map_of, nine_reach, outcome_of}
-use Rattle.ds_machine.proofs.Words.{processor_of, seven_reach, tick_of, wakes, with_map, woken_one, scan_due_tick, starts_vblank, unless_stop}
-use Rattle.ds_machine.proofs.Words.{video_after_event, video_answer, video_shown, video_stop}
-use Rattle.std.proofs.Common.{IsSome}
+use Rattle.ds_machine.proofs.Words.{At, Bool, Card, CardPasses, CardState, Cost, Dma, DmaUnit, Ending, Err, HBlank, Halted, IoState, IsSome, KeyLine}
+use Rattle.ds_machine.proofs.Words.{KeyScript, Left, LeftOut, List, MachineState, MachineStep, Makes, MapState, Nine, NineReach, None, Ok, Option}
+use Rattle.ds_machine.proofs.Words.{Proc, Processor, Result, Runs, Seven, SevenReach, Shown, Some, Stop, Stops, Tick, Timer, VBlank, Video, []}
+use Rattle.ds_machine.proofs.Words.{actor_of, after_line, and_taken, ap, awake, both_raised, came, card_after_event, card_done_at, card_due}
+use Rattle.ds_machine.proofs.Words.{card_starter, channel_moved, channel_step, channels_triggered, due_by, ended, false, goes_on, if◌then◌else◌}
+use Rattle.ds_machine.proofs.Words.{io_due, left_by, line_of, machine_concluded, machine_settled, map_after_unit, map_of, map_value, map_written}
+use Rattle.ds_machine.proofs.Words.{more, moved_by, next_unit, nine_memory, nine_reach, nine_side, outcome_of, over, passed_none, processor_of}
+use Rattle.ds_machine.proofs.Words.{reference, refl, scan_due_tick, seven_memory, seven_reach, seven_side, shown_to_others, starter_told}
+use Rattle.ds_machine.proofs.Words.{starts_vblank, step_accesses, step_by, stops, subst, swapped_if, sym, tick_of, true, unit_read, unit_refusal}
+use Rattle.ds_machine.proofs.Words.{unit_taken, unit_waits, unless_stop, video_after_event, video_answer, video_done, video_shown, video_step}
+use Rattle.ds_machine.proofs.Words.{video_stop, wakes, with_map, woken_one, ℕ, ◌++◌, ◌∙◌, ◌∷◌, ◌≡◌}
+use Rattle.ds_machine.specs.CardSteps.{map_word, MachineTakesInOrder, RunsTakeCardSteps, StepsPassCard, TakesCardSteps, unit_words, words_by}
 use Rattle.arm_core.specs.declared.outcomes.Stepped as arm
 use Rattle.ds_card.proofs.Begins.{begins}
-use Rattle.ds_dma.specs.declared.channels.Unit.{Unit as DmaUnit}
 use Rattle.ds_runs.specs.Runs as runs
 use Rattle.ds_runs.specs.declared.actors.Actor as actor
-use Rattle.ds_machine.specs.CardSteps.{MachineTakesInOrder, RunsTakeCardSteps, StepsPassCard, TakesCardSteps, unit_words, words_by}
 use Rattle.ds_machine.specs.CardSteps.TakesCardSteps.{more_card_steps, no_card_steps}
 use Rattle.ds_machine.proofs.CardAccesses.{joins, joins_none, map_reads, map_writes, nine_passes, passes_one, seven_passes}
 use Rattle.ds_machine.proofs.Files.{steps_keep_file}

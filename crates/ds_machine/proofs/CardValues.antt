@@ -1,16 +1,12 @@
-use Rattle.ds_machine.proofs.Words.{ℕ, ◌≡◌, ◌≤◌, ◌+◌, ◌*◌, ◌%◌, ◌^◌, nat_le, Bool, true, false, Option, Some, None, refl, ◌∙◌, ap, arith, IfSome}
-use Rattle.ds_machine.proofs.Words.{none-some, le_of, aligned_down, width_bytes, Width, Byte, Half, Word, Proc, Nine, Seven, Tick, data_port_at}
-use Rattle.ds_machine.proofs.Words.{tcm_of, Tcm, Itcm, Dtcm, Past, map_value, value_at, MapState, NineReach, tcm_value, place_of, Place, IoState}
-use Rattle.ds_machine.proofs.Words.{whole_if, whole_in, slot_of, meaning_of, Register, CardData, Slot, map_word, place_word, register_word, slot_word}
-use Rattle.ds_machine.proofs.Words.{tcm_word}
-use Rattle.std.specs.Prelude.{unwrap_or}
-use Rattle.ds_base.specs.Numbers.{value_by}
-use Rattle.ds_card.specs.Cards.{card_byte}
+use Rattle.ds_machine.proofs.Words.{Bool, Byte, CardData, Dtcm, Half, IfSome, IoState, IsSlot, Itcm, MapState, Nine, NineReach, None, Option, Past}
+use Rattle.ds_machine.proofs.Words.{Place, Proc, Register, Seven, Slot, Some, Tcm, Tick, Width, Word, aligned_down, ap, arith, card_byte}
+use Rattle.ds_machine.proofs.Words.{data_port_at, false, le_of, map_value, meaning_of, nat_le, none-some, place_of, refl, slot_of, tcm_of, true}
+use Rattle.ds_machine.proofs.Words.{unwrap_or, value_at, value_by, width_bytes, ℕ, ◌%◌, ◌*◌, ◌+◌, ◌^◌, ◌∙◌, ◌≡◌, ◌≤◌}
+use Rattle.ds_machine.proofs.NineReads.{tcm_value}
+use Rattle.ds_ports.specs.Ports.{whole_if, whole_in, part, port_half, port_value, read_or}
+use Rattle.ds_machine.specs.CardSteps.{map_word, place_word, register_word, slot_word, tcm_word, LoadsGiveWords, ReadsGiveWords}
 use Rattle.ds_places.specs.declared.kinds.Place.TheVariants as place
-use Rattle.ds_ports.specs.Ports.{part, port_half, port_value, read_or}
-use Rattle.ds_ports.specs.RegisterMap.{IsSlot}
 use Rattle.ds_ports.proofs.RegisterMaps.{some_slot}
-use Rattle.ds_machine.specs.CardSteps.{LoadsGiveWords, ReadsGiveWords}
 
 -- A word of the card's that a read takes is the value that it gets.
 

@@ -1,17 +1,12 @@
-use Rattle.ds_machine.proofs.Words.{◌↔◌, ◌||◌, ℕ, ◌≡◌, ◌<◌, ◌≤◌, ◌+◌, ◌*◌, ◌^◌, ◌==◌, ◌⊎◌, inl, inr, Bool, true, false, true≢false, if◌then◌else◌}
-use Rattle.ds_machine.proofs.Words.{List, [], Option, Some, None, refl, sym, ◌∙◌, ap, subst, arith, none-some, same_Some, and_parts, true_or_false}
-use Rattle.ds_machine.proofs.Words.{IsLater, LeftOut, V4, Tick, HasStatuses, HasNineStatuses, is_quiet, IoState, io_event, tick_after, with_gx}
-use Rattle.ds_machine.proofs.Words.{actor_of, Ending, IsLeast, MachineStep, Makes, Runs, due_at, Geometry, one_step, same_makes, complete_command}
-use Rattle.ds_machine.proofs.Words.{GxState, done_by, gx_finished, Swapped, geometry_after, GeometryCommand, acting_dues, is_due_before, last_frame}
-use Rattle.ds_machine.proofs.Words.{last_lists, CatchesUp, CatchesUpFor, CatchesUpIf, ComesBeforeAll, TakesGeometry, more_geometry, no_geometry}
-use Rattle.ds_machine.proofs.Words.{observes_by, rank_of, Shown, dues_of, reference, reference_step, IsSound, MachineState, NineState, SevenState}
-use Rattle.ds_machine.proofs.Words.{counts_of, HasBothStatuses, MayAct, ticks_left}
-use Rattle.std.specs.Prelude.{nat_lt}
-use Rattle.std.proofs.Common.{◌&&◌, IsSome}
-use Rattle.ds_base.specs.Schedules.{IsEarly}
+use Rattle.ds_machine.proofs.Words.{Bool, CatchesUp, CatchesUpFor, CatchesUpIf, CatchingUpRuns, ComesBeforeAll, Ending, Geometry, GeometryCommand}
+use Rattle.ds_machine.proofs.Words.{GxState, HasBothStatuses, HasNineStatuses, HasStatuses, IoState, IsEarly, IsLater, IsLeast, IsSome, IsSound}
+use Rattle.ds_machine.proofs.Words.{LeftOut, List, MachineState, MachineStep, Makes, MayAct, NineState, None, Option, Runs, SevenState, Shown, Some}
+use Rattle.ds_machine.proofs.Words.{Swapped, TakesGeometry, Tick, V4, [], acting_dues, actor_of, and_parts, ap, arith, complete_command, counts_of}
+use Rattle.ds_machine.proofs.Words.{done_by, due_at, dues_of, false, geometry_after, gx_finished, if◌then◌else◌, inl, inr, io_event, is_behind}
+use Rattle.ds_machine.proofs.Words.{is_due_before, is_quiet, last_frame, last_lists, more_geometry, nat_lt, no_geometry, none-some, observes_by}
+use Rattle.ds_machine.proofs.Words.{one_step, rank_of, reference, reference_step, refl, same_Some, same_makes, subst, sym, tick_after, ticks_left}
+use Rattle.ds_machine.proofs.Words.{true, true_or_false, true≢false, with_gx, ℕ, ◌&&◌, ◌*◌, ◌+◌, ◌<◌, ◌==◌, ◌^◌, ◌||◌, ◌↔◌, ◌∙◌, ◌≡◌, ◌≤◌, ◌⊎◌}
 use Rattle.ds_runs.specs.declared.actors.Actor as actor
-use Rattle.ds_machine.specs.Acting.{is_behind}
-use Rattle.ds_machine.specs.Lagging.{CatchingUpRuns}
 use Rattle.ds_machine.proofs.ActingDues.{due_where_acts, loud_same}
 use Rattle.ds_machine.proofs.GeometryFirst.{ComesFirst, least_acting, least_geometry}
 use Rattle.ds_machine.proofs.LagCommutes.{late_put}

@@ -1,18 +1,15 @@
-use Rattle.ds_machine.proofs.Words.{ℕ, ◌≡◌, ◌<◌, ◌+◌, inl, inr, Bool, true, false, true≢false, List, [], Option, Some, None, refl, sym, ◌∙◌, ap}
-use Rattle.ds_machine.proofs.Words.{subst, arith, le-max_right, none-some, IsSome, AreKeyLines, IsLater, Reschedules, LeftOut, Stop, Proc, Nine}
-use Rattle.ds_machine.proofs.Words.{Seven, Tick, card_due_for, DmaState, channel_due, dma_due, other_proc, map_value, MapState, unit_waits_most}
-use Rattle.ds_machine.proofs.Words.{unit_waits, next_unit, map_after_unit, unit_read, unit_refusal, unit_taken, map_read_leaves, map_write_goes}
-use Rattle.ds_machine.proofs.Words.{held_due, io_due, IsIo, IsTold, Goes, IsUnchanged, HasOnlyLaterEvents, ReschedulesEach, ProcessorIoState, IoState}
-use Rattle.ds_machine.proofs.Words.{channel_moved, io_of, is_held, ReadLeaves, all_io_dues, goes_io, of_both, processor_io_is, still_later}
-use Rattle.ds_machine.proofs.Words.{MachineStep, Makes, Stops, Dma, Timer, same_makes, same_stops, not_both, TimerState, timer_at, timer_due, GxState}
-use Rattle.ds_machine.proofs.Words.{is_stalled, channel_step, delayed_past, moved_by, one_event, past_tick, Shown, due_unless, processor_due}
-use Rattle.ds_machine.proofs.Words.{HasSoundParts, MachineState, ProcessorState, counts_of, due_past_unit, is_blocked, is_halted, map_of}
-use Rattle.ds_machine.proofs.Words.{processor_of, with_map, with_processor, VideoState}
-use Rattle.ds_dma.specs.declared.channels.Unit.{Unit as DmaUnit}
-use Rattle.ds_dma.proofs.Turns.{all_later}
+use Rattle.ds_machine.proofs.Words.{AreKeyLines, Bool, Dma, DmaState, DmaUnit, Goes, GxState, HasOnlyLaterEvents, HasSoundParts, IoState, IsIo}
+use Rattle.ds_machine.proofs.Words.{IsLater, IsSome, IsTold, IsUnchanged, LeftOut, List, MachineState, MachineStep, Makes, MapState, MovedGoes, Nine}
+use Rattle.ds_machine.proofs.Words.{None, Option, Proc, ProcessorIoState, ProcessorState, ReadLeaves, Reschedules, ReschedulesEach, Seven, Shown}
+use Rattle.ds_machine.proofs.Words.{Some, Stop, Stops, Tick, Timer, TimerState, VideoState, [], all_io_dues, all_later, ap, arith, card_due_for}
+use Rattle.ds_machine.proofs.Words.{channel_due, channel_moved, channel_step, counts_of, delayed_past, dma_due, due_past_unit, due_unless, false}
+use Rattle.ds_machine.proofs.Words.{goes_io, held_due, inl, inr, io_due, io_of, is_blocked, is_halted, is_held, is_stalled, le-max_right}
+use Rattle.ds_machine.proofs.Words.{map_after_unit, map_of, map_read_leaves, map_value, map_write_goes, moved_by, moved_goes, next_unit, none-some}
+use Rattle.ds_machine.proofs.Words.{not_both, of_both, one_event, other_proc, past_tick, processor_due, processor_io_is, processor_of, refl}
+use Rattle.ds_machine.proofs.Words.{same_makes, same_stops, some_due, still_later, subst, sym, timer_at, timer_due, true, true≢false, unit_read}
+use Rattle.ds_machine.proofs.Words.{unit_refusal, unit_taken, unit_waits, unit_waits_most, with_map, with_processor, ℕ, ◌+◌, ◌<◌, ◌∙◌, ◌≡◌}
 use Rattle.ds_ports.specs.HappeningLaws.{LeavesTransfer}
 use Rattle.ds_ports.proofs.HeldDues.{held_later}
-use Rattle.ds_ports.proofs.Events.{MovedGoes, moved_goes, some_due}
 use Rattle.ds_ports.proofs.Told.{told_on}
 use Rattle.ds_machine.proofs.Ticks.{after_unit}
 use Rattle.ds_machine.proofs.Moves.{Moves, left_after, other_held, read_held, read_io, moves_of, same_keys, then_io_dues}

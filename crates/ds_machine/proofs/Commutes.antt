@@ -1,9 +1,9 @@
-use Rattle.ds_machine.proofs.Words.{ℕ, ◌≡◌, ◌+◌, ◌/◌, ◌%◌, ◌^◌, Bool, true, false, if◌then◌else◌, List, [], ◌∷◌, Option, Some, None, refl, ◌∙◌, ap}
-use Rattle.ds_machine.proofs.Words.{Access, Fetch, MemoryMachine, Performed, Read, Write, perform, refused_or, with_value, Stop, Width, Half, Word}
-use Rattle.ds_machine.proofs.Words.{Arch, decoded_arm, condition_of, decoded_thumb, Instr, holds, Meaning, Outcome, carried_out, concluded}
-use Rattle.ds_machine.proofs.Words.{interrupt_meaning, undefined_meaning, meaning, skipped, RegisterState, is_thumb, FetchOutcome, Setting, enters}
-use Rattle.ds_machine.proofs.Words.{executed_word, fetched, fetched_half, fetched_word, stop_of, unless_refused, waits_of, data_accesses, data_waits}
-use Rattle.ds_machine.proofs.Words.{next_fetch, waits_of_step, taken, SideOf, side_taken, side_waits}
+use Rattle.ds_machine.proofs.Words.{Access, Arch, Bool, Fetch, FetchOutcome, Half, Instr, List, Meaning, MemoryMachine, None, Option, Outcome}
+use Rattle.ds_machine.proofs.Words.{Performed, Read, RegisterState, Setting, SideOf, Some, Stop, Width, Word, Write, [], ap, carried_out, concluded}
+use Rattle.ds_machine.proofs.Words.{condition_of, data_accesses, data_waits, decoded_arm, decoded_thumb, enters, executed_word, false, fetched}
+use Rattle.ds_machine.proofs.Words.{fetched_half, fetched_word, holds, if◌then◌else◌, interrupt_meaning, is_thumb, meaning, next_fetch, perform, refl}
+use Rattle.ds_machine.proofs.Words.{refused_or, side_taken, side_waits, skipped, stop_of, taken, true, undefined_meaning, unless_refused, waits_of}
+use Rattle.ds_machine.proofs.Words.{waits_of_step, with_value, ℕ, ◌%◌, ◌+◌, ◌/◌, ◌^◌, ◌∙◌, ◌∷◌, ◌≡◌}
 use Rattle.arm_core.specs.Steps as steps
 
 -- A change of what a processor reaches that none of its accesses tells or undoes, none of its steps does.

@@ -1,7 +1,7 @@
-use Rattle.ds_machine.proofs.Words.{ℕ, Bool, true, false, if◌then◌else◌, Option, Some, None, refl, MemoryMachine, Proc, Nine, Seven, Tick, Instr}
-use Rattle.ds_machine.proofs.Words.{holds, carried_out, interrupt_meaning, RegisterState, Setting, enters, fetched, CostsSome, arm7, arm9, move_of}
-use Rattle.ds_machine.proofs.Words.{Moved, NineReach, nine_memory, seven_memory, SideOf, nine_side, seven_side, side_taken, side_waits, nine_executed}
-use Rattle.ds_machine.proofs.Words.{taken, MachineState, Cost, Halted, Left, in_ticks, line_of, nine_reach, outcome_of, seven_reach}
+use Rattle.ds_machine.proofs.Words.{Bool, Cost, CostsSome, Halted, Instr, Left, MachineState, MemoryMachine, Moved, Nine, NineReach, None, Option}
+use Rattle.ds_machine.proofs.Words.{Proc, RegisterState, Setting, Seven, SideOf, Some, Tick, arm7, arm9, carried_out, enters, false, fetched, holds}
+use Rattle.ds_machine.proofs.Words.{if◌then◌else◌, in_ticks, interrupt_meaning, line_of, move_of, nine_executed, nine_memory, nine_reach, nine_side}
+use Rattle.ds_machine.proofs.Words.{outcome_of, refl, seven_memory, seven_reach, seven_side, side_taken, side_waits, taken, true, ℕ}
 use Rattle.arm_exec.proofs.Costs.{carried_out_costs, word_costs}
 use Rattle.arm9_exec.proofs.Costs.{moved_costs}
 use Rattle.arm_core.specs.declared.outcomes.Stepped as arm

@@ -1,10 +1,9 @@
-use Rattle.ds_machine.proofs.Words.{ℕ, ◌≡◌, ◌+◌, List, ◌∷◌, Option, Some, None, sym, ◌∙◌, ap, subst, [], none-some, KeyLine, LeftOut, Proc, Tick}
-use Rattle.ds_machine.proofs.Words.{next_unit, actor_of, IsLeast, MachineStep, Makes, Stops, KeyScript, Video, Geometry, Dma, Processor, same_makes}
-use Rattle.ds_machine.proofs.Words.{not_both, channel_step, awake, Shown, after_event, after_geometry, after_line, due_by, dues_of, keys_due, step_by}
-use Rattle.ds_machine.proofs.Words.{reference_step, MachineState, counts_of}
+use Rattle.ds_machine.proofs.Words.{Dma, Geometry, IsLeast, KeyLine, KeyScript, LeftOut, List, MachineState, MachineStep, Makes, None, Option, Proc}
+use Rattle.ds_machine.proofs.Words.{Processor, Shown, Some, Stops, Tick, Video, [], actor_of, after_event, after_geometry, after_line, ap, awake}
+use Rattle.ds_machine.proofs.Words.{channel_step, counts_of, due_by, due_of_least, dues_of, keys_due, next_unit, none-some, not_both, reference_step}
+use Rattle.ds_machine.proofs.Words.{same_makes, step_by, subst, sym, ℕ, ◌+◌, ◌∙◌, ◌∷◌, ◌≡◌}
 use Rattle.ds_runs.specs.declared.actors.Actor as actor
 use Rattle.ds_machine.proofs.ChannelEvents.{channel_unchanged, channel_made, event_counts, unit_counts}
-use Rattle.ds_machine.proofs.DueTicks.{due_of_least}
 use Rattle.ds_machine.proofs.MachineSchedule.{awake_makes, awake_stops}
 use Rattle.ds_machine.proofs.ProcessorSteps.{came_by, concluded_stops, concludes, costs_some, gone_counts, reached_by, reaches, step_is}
 use Rattle.ds_machine.proofs.VideoEvents.{video_makes, video_stops}

@@ -1,10 +1,7 @@
-use Rattle.ds_machine.proofs.Words.{ℕ, ◌≡◌, Bool, true, false, true≢false, if◌then◌else◌, Option, Some, None, refl, sym, ◌∙◌, ap, subst}
-use Rattle.ds_machine.proofs.Words.{MemoryMachine, Instr, Coprocessor, holds, carried_out, condition, meaning, RegisterState, Setting}
-use Rattle.ds_machine.proofs.Words.{executed_unless, swi_stop, arm7, arm9, move_of, operation_meaning, is_decoded, operation_of, Operation}
-use Rattle.ds_machine.proofs.Words.{operation_means, NineReach, SevenReach, nine_memory, seven_memory, operation_outcome, nine_side, seven_side}
-use Rattle.std.proofs.Common.{◌&&◌}
-use Rattle.arm_core.specs.Steps.{executed}
-use Rattle.arm_ops.proofs.Laws.{operation_needs_none}
+use Rattle.ds_machine.proofs.Words.{Bool, Coprocessor, Instr, MemoryMachine, NineReach, None, Operation, Option, RegisterState, Setting, SevenReach}
+use Rattle.ds_machine.proofs.Words.{Some, ap, arm7, arm9, carried_out, condition, executed, executed_unless, false, holds, if◌then◌else◌, is_decoded}
+use Rattle.ds_machine.proofs.Words.{meaning, move_of, nine_memory, nine_side, operation_meaning, operation_means, operation_needs_none, operation_of}
+use Rattle.ds_machine.proofs.Words.{operation_outcome, refl, seven_memory, seven_side, subst, swi_stop, sym, true, true≢false, ℕ, ◌&&◌, ◌∙◌, ◌≡◌}
 
 -- An instruction that is decoded is executed as what it was decoded as.
 

@@ -1,20 +1,17 @@
-use Rattle.ds_machine.proofs.Words.{count_ones, ◌&&◌, length-map, ℕ, zero, suc, ◌≡◌, ◌<◌, ◌+◌, ◌%◌, ◌/◌, ◌^◌, ◌==◌, if◌then◌else◌, Bool, true, false}
-use Rattle.ds_machine.proofs.Words.{true≢false, List, [], ◌∷◌, length, Option, Some, None, Contains, refl, sym, ◌∙◌, ap, subst, arith, IfSome, not}
-use Rattle.ds_machine.proofs.Words.{Access, Fetch, MemoryMachine, Read, Write, aligned_down, width_bytes, Width, Byte, Half, Word, Arch, V4, V5}
-use Rattle.ds_machine.proofs.Words.{Instr, Bkpt, Coprocessor, Swi, ThumbSwi, Strh, Ldrh, Ldrsb, Ldrsh, count_listed, list_bytes, listed_registers}
-use Rattle.ds_machine.proofs.Words.{lowest, moved_base, holds, Meaning, skipped, multiple_meaning, reached_bank, reads, stored_value, stores_new_base}
-use Rattle.ds_machine.proofs.Words.{transferred, writes, span, RegisterState, register, fetched, load_meaning, signed_byte, signed_half, Addressed}
-use Rattle.ds_machine.proofs.Words.{access_made, access_meaning, accesses_by, op_meaning, operation_meaning, single_transfer_meaning, is_decoded}
-use Rattle.ds_machine.proofs.Words.{is_other, loads, operation_of, DataAccess, Op, Operation, TransferOp, WordOrByte, HalfOrSigned, operation_means}
-use Rattle.ds_machine.proofs.Words.{run_is_decoded, AllReachPrivate, ReachesPrivate, may_go_ahead, data_accesses, next_fetch, SideOf, DataStays}
-use Rattle.ds_machine.proofs.Words.{GoesByWords}
-use Rattle.std.specs.Prelude.{map}
-use Rattle.std.specs.Prelude.{◌*◌, slice_index_or}
-use Rattle.arm_words.specs.declared.instructions.Instr.TheVariants.{ThumbBkpt}
+use Rattle.ds_machine.proofs.Words.{Access, Addressed, AllReachPrivate, Arch, Bool, Byte, Contains, Coprocessor, DataAccess, DataStays, Fetch}
+use Rattle.ds_machine.proofs.Words.{GoesByWords, Half, HalfOrSigned, IfSome, Instr, Ldrh, Ldrsb, Ldrsh, List, Meaning, MemoryMachine, None, Op}
+use Rattle.ds_machine.proofs.Words.{Operation, Option, ReachesPrivate, Read, RegisterState, SideOf, Some, Strh, Swi, ThumbSwi, TransferOp, V4, V5}
+use Rattle.ds_machine.proofs.Words.{Width, Word, WordOrByte, Write, [], access_made, access_meaning, access_stays, accesses_by, aligned_down, ap}
+use Rattle.ds_machine.proofs.Words.{arith, count_listed, count_ones, data_accesses, false, fetched, holds, if◌then◌else◌, is_decoded, is_other}
+use Rattle.ds_machine.proofs.Words.{length, length-map, list_bytes, listed_registers, loads, lowest, made_accesses, map, may_go_ahead, moved_base}
+use Rattle.ds_machine.proofs.Words.{next_fetch, not, op_meaning, operation_meaning, operation_means, operation_of, refl, register, run_is_decoded}
+use Rattle.ds_machine.proofs.Words.{single_transfer_meaning, skipped, slice_index_or, span, subst, suc, sym, true, true≢false, width_bytes, zero, ℕ}
+use Rattle.ds_machine.proofs.Words.{◌%◌, ◌&&◌, ◌*◌, ◌+◌, ◌/◌, ◌<◌, ◌==◌, ◌^◌, ◌∙◌, ◌∷◌, ◌≡◌}
+use Rattle.arm_words.specs.declared.instructions.Instr.TheVariants.{Bkpt, ThumbBkpt}
+use Rattle.arm_core.specs.Multiples.{multiple_meaning, reached_bank, reads, stored_value, stores_new_base, transferred, writes}
+use Rattle.arm_core.specs.Transfers.{load_meaning, signed_byte, signed_half}
 use Rattle.arm_ops.specs.declared.operations.Op.TheVariants.{Multiple}
 use Rattle.arm_ops.specs.declared.operations.RegisterList.{RegisterList}
-use Rattle.arm_ops.proofs.Laws.{made_accesses}
-use Rattle.ds_machine.specs.Touching.{access_stays}
 use Rattle.ds_machine.proofs.PrivatePlaces.{private_itself}
 
 -- What a decoded operation reaches, by the address of its access.

@@ -1,9 +1,24 @@
-use Rattle.ds_machine.proofs.Words.{ℕ, ◌≡◌, ◌≢◌, ◌<◌, ◌≤◌, ◌+◌, ◌^◌, ◌⊎◌, inl, inr, Bool, true, false, List, [], ◌∷◌, ◌++◌, length, Option, Some}
-use Rattle.ds_machine.proofs.Words.{None, refl, sym, ◌∙◌, ap, subst, arith, same_Some, none-some, LeftOut, Proc, Nine, Seven, Due, Tick}
-use Rattle.ds_machine.proofs.Words.{scan_due_tick, actor_of, due_with_rank, earlier, first_from, IsLeast, MachineStep, due_at, AllReschedule}
-use Rattle.ds_machine.proofs.Words.{due_of_actor, first_is_least, first_of_append, at_rank, is_later, within, rank_of, MayStep, Shown, awake, due_by}
-use Rattle.ds_machine.proofs.Words.{due_unless, dues_of, processor_due, step_by, reference_step, MachineState, ProcessorState, is_blocked}
-use Rattle.ds_machine.proofs.Words.{processor_of, tick_of}
+use Rattle.std.proofs.Common.{ℕ, ◌≡◌, ◌≢◌, ◌<◌, ◌≤◌, ◌+◌, ◌^◌, ◌⊎◌, inl, inr, Bool, true, false, List, [], ◌∷◌, ◌++◌, length, Option, Some, None}
+use Rattle.std.proofs.Common.{refl, sym, ◌∙◌, ap, subst, arith}
+use Rattle.std.proofs.lemmas.Option.{same_Some, none-some}
+use Rattle.ds_base.specs.declared.left_out.LeftOut.{LeftOut}
+use Rattle.ds_base.specs.declared.processors.Proc.{Proc}
+use Rattle.ds_base.specs.declared.processors.Proc.TheVariants.{Nine, Seven}
+use Rattle.ds_base.specs.declared.ticks.Due.{Due}
+use Rattle.ds_base.specs.declared.ticks.Tick.{Tick}
+use Rattle.video2d.specs.Scans.{scan_due_tick}
+use Rattle.ds_runs.specs.Actors.{actor_of}
+use Rattle.ds_runs.specs.OrderLaws.{due_with_rank, earlier, first_from}
+use Rattle.ds_runs.specs.Runs.{IsLeast, MachineStep, due_at}
+use Rattle.ds_runs.specs.Owed.{AllReschedule}
+use Rattle.ds_runs.proofs.ActorTable.{due_of_actor}
+use Rattle.ds_runs.proofs.Firsts.{first_is_least, first_of_append}
+use Rattle.ds_runs.proofs.Lists.{at_rank, is_later, within}
+use Rattle.ds_machine.specs.Private.{rank_of}
+use Rattle.ds_machine.specs.TurnLaws.{MayStep}
+use Rattle.ds_machine.specs.Reference.{Shown, awake, due_by, due_unless, dues_of, processor_due, step_by, reference_step}
+use Rattle.ds_machine.specs.States.{MachineState, ProcessorState}
+use Rattle.ds_machine.specs.Steps.{is_blocked, processor_of, tick_of}
 use Rattle.ds_runs.specs.declared.actors.Actor as actor
 use Rattle.ds_machine.specs.NextEvents.{events_of}
 

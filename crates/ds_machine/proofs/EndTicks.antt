@@ -1,13 +1,12 @@
-use Rattle.ds_machine.proofs.Words.{ℕ, ◌≡◌, ◌<◌, ◌≤◌, ◌^◌, ◌⊎◌, inl, inr, ◌-◌, max, min, Bool, true, false, List, ◌∷◌, Option, Some, refl, sym, ◌∙◌}
-use Rattle.ds_machine.proofs.Words.{ap, subst, arith, Proc, Nine, Seven, KeyLine, Tick, other_proc, acting_io_dues, IoState, is_held, actor_of}
-use Rattle.ds_machine.proofs.Words.{due_at, acting_dues, Fences, IsNextEvent, acting_events_of, due_at_least, least_kept, least_of, past_other}
-use Rattle.ds_machine.proofs.Words.{IsBelowFence, rank_of, due_unless, keys_due, processor_due, MachineState, ProcessorState, is_blocked}
-use Rattle.ds_machine.proofs.Words.{processor_of, tick_of, ComesFirst, HasEnds, HasLimit, IsTurnEnd, due_or_never, Ends, NextEvent}
-use Rattle.ds_machine.specs.NextEvents.{limit_by, limit_in, due_put, wait_in, waits_until}
-use Rattle.ds_machine.specs.TurnLaws.{ComesBeforeEvents, IsFirst}
+use Rattle.ds_machine.proofs.Words.{Bool, Ends, Fences, HasEnds, HasLimit, IoState, IsBelowFence, KeyLine, List, MachineState, NextEvent, Nine}
+use Rattle.ds_machine.proofs.Words.{Option, Proc, ProcessorState, Seven, Some, Tick, acting_dues, acting_events_of, acting_io_dues, actor_of, ap}
+use Rattle.ds_machine.proofs.Words.{arith, due_at, due_unless, false, inl, inr, is_blocked, is_held, keys_due, max, min, other_proc, processor_due}
+use Rattle.ds_machine.proofs.Words.{processor_of, rank_of, refl, sort_rank, subst, sym, tick_of, true, ℕ, ◌-◌, ◌<◌, ◌^◌, ◌∙◌, ◌∷◌, ◌≡◌, ◌≤◌, ◌⊎◌}
+use Rattle.ds_machine.specs.NextEvents.{IsNextEvent, due_at_least, least_kept, least_of, past_other, limit_by, limit_in, due_put, wait_in}
+use Rattle.ds_machine.specs.NextEvents.{waits_until}
+use Rattle.ds_machine.specs.TurnLaws.{ComesFirst, IsTurnEnd, due_or_never, ComesBeforeEvents, IsFirst}
 use Rattle.ds_machine.specs.declared.next_events.First.{First}
 use Rattle.ds_machine.proofs.ActingDues.{acting_low, acting_processor}
-use Rattle.ds_machine.proofs.DueTicks.{sort_rank}
 use Rattle.ds_machine.proofs.FastSteps.{ComesBefore, event_there, kept_is, wait_ends, wait_is}
 use Rattle.ds_machine.proofs.GoingSteps.{above_events, across, after_other, event_in, free_by, least_there, no_fence, not_own, past_if, past_never, differs}
 use Rattle.ds_machine.proofs.Wakes.{Beside}

@@ -1,14 +1,13 @@
-use Rattle.ds_machine.proofs.Words.{ℕ, zero, suc, ◌≡◌, ◌<◌, ◌≤◌, ◌^◌, ◌⊎◌, inl, inr, Bool, true, false, true≢false, if◌then◌else◌, List, [], ◌∷◌}
-use Rattle.ds_machine.proofs.Words.{◌++◌, length, Option, Some, refl, sym, ◌∙◌, ap, subst, arith, ◌&&◌, same_Some, lt_or_same, KeyLine, LeftOut, Proc}
-use Rattle.ds_machine.proofs.Words.{Nine, Seven, Due, Tick, Cost, acting_io_dues, IsIo, IoState, io_of, is_held, is_settled, first_from, IsLeast}
-use Rattle.ds_machine.proofs.Words.{IsOver, Makes, MachineStep, due_at, Processor, first_is_least, line_is_up, shares_bit, acting_dues, IsNextEvent}
-use Rattle.ds_machine.proofs.Words.{acting_events_of, least_kept, least_of, due_at_least, Shown, awake, due_unless, keys_due, processor_due, step_by}
-use Rattle.ds_machine.proofs.Words.{AreAsleep, stepped_of, MachineState, ProcessorState, ended, machine_concluded, goes_on, is_blocked, line_of}
-use Rattle.ds_machine.proofs.Words.{outcome_of, processor_of, tick_of, wakes, went_on, with_io, with_processor, woken, woken_one, NextEvent}
-use Rattle.ds_ports.proofs.Settles.{settled_stays}
+use Rattle.ds_machine.proofs.Words.{AreAsleep, Bool, Cost, Due, IoState, IsIo, IsLeast, IsOver, KeyLine, LeftOut, List, MachineState, MachineStep}
+use Rattle.ds_machine.proofs.Words.{Makes, NextEvent, Nine, Option, Proc, Processor, ProcessorState, Seven, Shown, Some, Tick, [], acting_dues}
+use Rattle.ds_machine.proofs.Words.{acting_events_of, acting_io_dues, ap, arith, awake, due_at, due_then, due_unless, ended, false, first_from}
+use Rattle.ds_machine.proofs.Words.{first_is_least, goes_on, if◌then◌else◌, inl, inr, io_of, is_blocked, is_held, is_settled, keys_due, length}
+use Rattle.ds_machine.proofs.Words.{line_is_up, line_of, lt_or_same, machine_concluded, outcome_of, processor_due, processor_of, refl, same_Some}
+use Rattle.ds_machine.proofs.Words.{settled_stays, shares_bit, sort_rank, step_by, stepped_of, subst, suc, sym, tick_is, tick_of, true, true≢false}
+use Rattle.ds_machine.proofs.Words.{wakes, went_on, with_io, with_processor, woken, woken_one, zero, ℕ, ◌&&◌, ◌++◌, ◌<◌, ◌^◌, ◌∙◌, ◌∷◌, ◌≡◌, ◌≤◌, ◌⊎◌}
+use Rattle.ds_machine.specs.NextEvents.{IsNextEvent, least_kept, least_of, due_at_least}
 use Rattle.ds_machine.specs.declared.answers.Done.TheVariants as answers
 use Rattle.ds_machine.proofs.ActingDues.{acting_low, acting_processor, acting_split}
-use Rattle.ds_machine.proofs.DueTicks.{due_then, sort_rank, tick_is}
 use Rattle.ds_machine.proofs.ProcessorSteps.{step_concluded}
 use Rattle.ds_machine.proofs.Quiet.{not_halted}
 use Rattle.ds_machine.proofs.Wakes.{Beside, put_beside}

@@ -1,11 +1,8 @@
-use Rattle.ds_machine.proofs.Words.{ℕ, ◌≡◌, ◌<◌, ◌≤◌, ◌^◌, ◌⊎◌, inl, inr, Bool, false, Option, Some, refl, sym, ◌∙◌, ap, subst, arith, same_Some}
-use Rattle.ds_machine.proofs.Words.{Proc, Tick, Cost, IsIo, IoState, io_of, is_settled, IsLeast, acting_dues, line_is_up, TookStep, IsAhead, rank_of, due_unless}
-use Rattle.ds_machine.proofs.Words.{processor_due, MachineState, outcome_of, processor_of, tick_of, went_on, with_processor, DataStaysNear}
-use Rattle.ds_machine.proofs.Words.{BelongsToTurn, TakesSteps, is_blocked, more_steps, no_steps, own_remaining}
-use Rattle.ds_machine.specs.NextEvents.{GoesFast, WentOn}
-use Rattle.ds_machine.specs.TurnLaws.{ticks_left}
-use Rattle.std.specs.Prelude.{◌-◌}
-use Rattle.ds_machine.proofs.DueTicks.{own_tick}
+use Rattle.ds_machine.proofs.Words.{BelongsToTurn, Bool, Cost, DataStaysNear, GoesFast, IoState, IsAhead, IsIo, IsLeast, MachineState, Option, Proc}
+use Rattle.ds_machine.proofs.Words.{Some, TakesSteps, Tick, TookStep, WentOn, acting_dues, ap, arith, due_unless, false, inl, inr, io_of, is_blocked}
+use Rattle.ds_machine.proofs.Words.{is_settled, line_is_up, more_steps, no_steps, outcome_of, own_remaining, own_tick, processor_due, processor_of}
+use Rattle.ds_machine.proofs.Words.{rank_of, refl, same_Some, subst, sym, tick_of, ticks_left, went_on, with_processor, ℕ, ◌-◌, ◌<◌, ◌^◌, ◌∙◌, ◌≡◌}
+use Rattle.ds_machine.proofs.Words.{◌≤◌, ◌⊎◌}
 use Rattle.ds_machine.proofs.EndTicks.{LeavesOthers, end_stays, limit_stays}
 use Rattle.ds_machine.proofs.FastSteps.{asleep_by, free_stays, made_fast, reach_beside}
 use Rattle.ds_machine.proofs.GoingSteps.{IsDueAt, least_there, needs_none, other_stays, took_when}

@@ -1,14 +1,13 @@
-use Rattle.ds_machine.proofs.Words.{ℕ, ◌≡◌, ◌<◌, ◌≤◌, [], ◌∷◌, ◌++◌, length, Option, Some, None, refl, sym, ◌∙◌, ap, subst, arith, none-some}
-use Rattle.ds_machine.proofs.Words.{same_Some, Proc, Nine, Seven, Due, Tick, card_due_for, card_starter, actor_of, due_with_rank, earlier, first_from}
-use Rattle.ds_machine.proofs.Words.{IsLeast, due_at, KeyScript, Video, Timer, Divider, SquareRoot, Geometry, Card, Dma, Processor, due_of_actor}
-use Rattle.ds_machine.proofs.Words.{first_is_least, first_of_append, least_unique, within, scan_due_tick, acting_due, acting_dues, fence_due, IsAhead}
-use Rattle.ds_machine.proofs.Words.{IsBelowFence, IsPrivate, rank_of, IsFence, Fences, keys_due, processor_due, MachineState}
+use Rattle.ds_machine.proofs.Words.{Card, Divider, Dma, Due, Fences, Geometry, IsAhead, IsBelowFence, IsFence, IsLeast, IsPrivate, KeyScript}
+use Rattle.ds_machine.proofs.Words.{MachineState, Nine, None, Option, Proc, Processor, Seven, Some, SquareRoot, Tick, Timer, Video, [], acting_due}
+use Rattle.ds_machine.proofs.Words.{acting_dues, acting_io_due, actor_of, ap, arith, card_due_for, card_starter, due_at, due_of_actor, due_with_rank}
+use Rattle.ds_machine.proofs.Words.{earlier, first_from, first_is_least, first_of_append, keys_due, least_unique, length, none-some, own_tick}
+use Rattle.ds_machine.proofs.Words.{processor_due, rank_of, refl, same_Some, scan_due_tick, subst, sym, within, ℕ, ◌++◌, ◌<◌, ◌∙◌, ◌∷◌, ◌≡◌, ◌≤◌}
+use Rattle.ds_machine.specs.FenceTicks.{fence_due, channel_dues, fence_dues, timer_dues}
 use Rattle.ds_card.proofs.Schedules.{due_for_starter, starter_of_due}
-use Rattle.ds_ports.specs.Acting.{acting_io_due}
 use Rattle.ds_runs.specs.declared.actors.Actor as actor
-use Rattle.ds_machine.specs.FenceTicks.{channel_dues, fence_dues, timer_dues}
 use Rattle.ds_machine.proofs.ActingDues.{acting_low, acting_of_rank, acting_processor}
-use Rattle.ds_machine.proofs.DueTicks.{alone, own_tick}
+use Rattle.ds_machine.proofs.DueTicks.{alone}
 
 -- The first of those that may halt a processor, wake it or make it wait.
 

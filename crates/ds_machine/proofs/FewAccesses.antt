@@ -1,21 +1,18 @@
-use Rattle.ds_machine.proofs.Words.{ℕ, suc, ◌≡◌, ◌≤◌, ◌+◌, ◌^◌, ◌%◌, ◌==◌, if◌then◌else◌, Bool, true, false, List, [], ◌∷◌, length, map, Option, Some}
-use Rattle.ds_machine.proofs.Words.{None, refl, ap, arith, length-map, Byte, Half, Arch, V4, V5, Instr, Bx, BlxRegister, Bkpt, Clz, Saturating, Smla}
-use Rattle.ds_machine.proofs.Words.{Smlaw, Smulw, Smlal, Smul, Mul, Mla, LongMultiply, Swap, HalfTransfer, Mrs, Msr, MsrImmediate, Compare, Move}
-use Rattle.ds_machine.proofs.Words.{Data, DoubleTransfer, Transfer, Multiple, Branch, Coprocessor, Swi, Never, ThumbAddress, ThumbLoadLiteral}
-use Rattle.ds_machine.proofs.Words.{ThumbBranchIf, ThumbBranch, ThumbBlPrefix, ThumbBlSuffix, HalfOp, Strh, Ldrh, Ldrsb, Ldrsh, addressed, list_bytes}
-use Rattle.ds_machine.proofs.Words.{listed_registers, lowest, moved_base, offset_value, short_offset_value, holds, Meaning, enhanced_meaning}
-use Rattle.ds_machine.proofs.Words.{link_meaning, act, act_branch, act_multiply, act_processing, condition, skipped, multiple_meaning, reached_bank}
-use Rattle.ds_machine.proofs.Words.{reads, stored_value, stores_new_base, transferred, writes, RegisterState, register, equivalent}
-use Rattle.ds_machine.proofs.Words.{half_or_signed_meaning, load_meaning, signed_byte, signed_half, signed_half_meaning, word_or_byte_meaning}
-use Rattle.ds_machine.proofs.Words.{Addressed, op_meaning, operation_meaning, single_transfer_meaning, listed_within, DataAccess, Op, Operation}
-use Rattle.ds_machine.proofs.Words.{TransferOp, WordOrByte, HalfOrSigned}
-use Rattle.std.proofs.Common.{◌&&◌, not}
-use Rattle.arm_words.specs.declared.instructions.Instr.TheVariants.{BlxTarget, Pld, ThumbBlxSuffix}
+use Rattle.ds_machine.proofs.Words.{Addressed, Arch, Bool, Byte, Clz, Compare, Coprocessor, Data, DataAccess, DoubleTransfer, Half, HalfOp}
+use Rattle.ds_machine.proofs.Words.{HalfOrSigned, HalfTransfer, Instr, InstructionsAreShort, Ldrh, Ldrsb, Ldrsh, List, LongMultiply, Meaning, Mla}
+use Rattle.ds_machine.proofs.Words.{Move, Mrs, Msr, MsrImmediate, Mul, Never, None, Op, Operation, Option, RegisterState, Saturating, Smla, Smlal}
+use Rattle.ds_machine.proofs.Words.{Smlaw, Smul, Smulw, Some, Strh, Swap, Swi, ThumbAddress, ThumbBlPrefix, ThumbBlSuffix, ThumbBranch, ThumbBranchIf}
+use Rattle.ds_machine.proofs.Words.{ThumbLoadLiteral, TransferOp, V4, V5, WordOrByte, [], access_of, act, act_branch, act_multiply, act_processing}
+use Rattle.ds_machine.proofs.Words.{addressed, ap, arith, computed, condition, enhanced_meaning, equivalent, false, holds, if◌then◌else◌, length}
+use Rattle.ds_machine.proofs.Words.{length-map, link_meaning, list_bytes, listed_registers, listed_within, lowest, map, meaning_by, moved_base, not}
+use Rattle.ds_machine.proofs.Words.{offset_value, op_meaning, operation_meaning, refl, register, short_offset_value, single_transfer_meaning, skipped}
+use Rattle.ds_machine.proofs.Words.{suc, true, ℕ, ◌%◌, ◌&&◌, ◌+◌, ◌==◌, ◌^◌, ◌∷◌, ◌≡◌, ◌≤◌}
+use Rattle.arm_words.specs.declared.instructions.Instr.TheVariants.{Bx, BlxRegister, Bkpt, Transfer, Multiple, Branch, BlxTarget, Pld, ThumbBlxSuffix}
+use Rattle.arm_core.specs.Multiples.{multiple_meaning, reached_bank, reads, stored_value, stores_new_base, transferred, writes}
+use Rattle.arm_core.specs.Transfers.{half_or_signed_meaning, load_meaning, signed_byte, signed_half, signed_half_meaning, word_or_byte_meaning}
 use Rattle.arm_core.specs.Doubles.{double_at}
 use Rattle.arm_core.specs.Swaps.{swap_meaning}
-use Rattle.arm_ops.specs.Meanings.{access_of, computed, meaning_by}
 use Rattle.arm_ops.specs.declared.operations.Op.TheVariants as ops
-use Rattle.ds_machine.specs.Rooms.{InstructionsAreShort}
 
 -- An instruction makes sixteen accesses at most: a list names sixteen registers, and all others make two at most. So it is of operations.
 

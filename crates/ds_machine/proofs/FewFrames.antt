@@ -1,10 +1,9 @@
-use Rattle.ds_machine.proofs.Words.{ℕ, ◌≡◌, ◌⊎◌, inl, inr, ◌≤◌, ◌<◌, ◌+◌, ◌*◌, List, [], ◌++◌, length, Option, Some, None, option_map, refl, sym, ◌∙◌}
-use Rattle.ds_machine.proofs.Words.{ap, subst, arith, LeftOut, Tick, actor_of, Ending, IsLeast, Makes, Runs, more, over, stops, Video, FollowFrames}
-use Rattle.ds_machine.proofs.Words.{WholeFrame, framed_of, last_frame, Shown, due_by, dues_of, reference, reference_step, HasSoundParts, MachineState}
-use Rattle.ds_machine.proofs.Words.{ScanState, framed_by, scan_due, scan_due_tick}
-use Rattle.std.proofs.lemmas.List.{length-append}
+use Rattle.ds_machine.proofs.Words.{Ending, HasSoundParts, IsLeast, LeftOut, List, MachineState, Makes, None, Option, Runs, ScanState, Shown, Some}
+use Rattle.ds_machine.proofs.Words.{Tick, Video, WholeFrame, [], actor_of, ap, arith, due_by, dues_of, framed_by, framed_of, inl, inr, last_frame}
+use Rattle.ds_machine.proofs.Words.{length, length-append, more, option_map, over, reference, reference_step, refl, scan_due, scan_due_tick, stops}
+use Rattle.ds_machine.proofs.Words.{subst, sym, ℕ, ◌*◌, ◌++◌, ◌+◌, ◌<◌, ◌∙◌, ◌≡◌, ◌≤◌, ◌⊎◌}
+use Rattle.ds_machine.specs.FrameLaws.{FollowFrames, FramesAreFew}
 use Rattle.ds_runs.specs.declared.actors.Actor as actor
-use Rattle.ds_machine.specs.FrameLaws.{FramesAreFew}
 use Rattle.ds_machine.proofs.Frames.{step_follows}
 use Rattle.ds_machine.proofs.MachineSchedule.{owes, steps_here}
 use Rattle.ds_machine.proofs.StepsMay.{answers_as}

@@ -1,12 +1,11 @@
-use Rattle.ds_machine.proofs.Words.{ℕ, ◌≡◌, inl, inr, Bool, true, false, true≢false, if◌then◌else◌, List, Option, Some, None, refl, sym, ◌∙◌, ap}
-use Rattle.ds_machine.proofs.Words.{subst, Proc, Nine, Seven, Tick, true_or_false, io_event, actor_of, MachineStep, Makes, Stops, KeyScript, Card}
-use Rattle.ds_machine.proofs.Words.{Dma, Processor, LeftOut, acting_dues, one_event, ActsUnobserving, observes_by, IsAhead, IsBelowFence, IsPrivate}
-use Rattle.ds_machine.proofs.Words.{Shown, after_event, awake, due_by, dues_of, processor_due, reference_step, step_by, HasSoundParts, MachineState}
-use Rattle.ds_machine.proofs.Words.{with_file, HasBothStatuses, left_by, stepped_of, ended, goes_on, machine_settled, processor_of, tick_of, wakes}
-use Rattle.ds_machine.proofs.Words.{with_io, woken_one, CartFile, machine_graft, step_with, untouched_by, MayStep}
+use Rattle.ds_machine.proofs.Words.{ActsUnobserving, Bool, Card, CartFile, Dma, HasBothStatuses, HasSoundParts, IsAhead, IsBelowFence, IsPrivate}
+use Rattle.ds_machine.proofs.Words.{KeyScript, LeftOut, List, MachineState, MachineStep, Makes, MayStep, Nine, None, Option, Proc, Processor, Seven}
+use Rattle.ds_machine.proofs.Words.{Shown, Some, StepsKeepFile, Stops, Tick, acting_dues, actor_of, after_event, ap, awake, due_by, dues_of, ended}
+use Rattle.ds_machine.proofs.Words.{false, goes_on, if◌then◌else◌, inl, inr, io_event, left_by, machine_graft, machine_settled, observes_by}
+use Rattle.ds_machine.proofs.Words.{one_event, processor_due, processor_of, reference_step, refl, step_by, step_with, stepped_of, subst, sym, tick_of}
+use Rattle.ds_machine.proofs.Words.{true, true_or_false, true≢false, untouched_by, wakes, with_file, with_io, woken_one, ℕ, ◌∙◌, ◌≡◌}
 use Rattle.ds_runs.specs.declared.actors.Actor as actor
 use Rattle.ds_machine.specs.Lagging as lagging
-use Rattle.ds_machine.specs.Touched.{StepsKeepFile}
 use Rattle.ds_machine.specs.declared.answers.Done as answer
 use Rattle.ds_machine.specs.declared.answers.Done.TheVariants as answers
 use Rattle.ds_machine.proofs.Apart.{picked}

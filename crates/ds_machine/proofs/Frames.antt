@@ -1,21 +1,15 @@
-use Rattle.std.specs.Prelude.{◌==◌}
-use Rattle.ds_machine.proofs.Words.{ℕ, ◌≡◌, ◌<◌, Bool, true, false, true≢false, if◌then◌else◌, List, [], ◌∷◌, Option, Some, None, option_map, refl}
-use Rattle.ds_machine.proofs.Words.{sym, ◌∙◌, ap, subst, arith, last_or, LeftOut, Stop, Proc, Nine, Seven, Tick, Cost, Halted, Left, next_unit}
-use Rattle.ds_machine.proofs.Words.{unit_refusal, unit_moved, io_due, Goes, IoState, video_done, complete_command, GxState, done_by, Swapped}
-use Rattle.ds_machine.proofs.Words.{geometry_after, GeometryCommand, actor_of, MachineStep, Makes, Stops, KeyScript, Video, Timer, Geometry, Dma}
-use Rattle.ds_machine.proofs.Words.{Processor, same_makes, not_both, channel_step, moved_by, FollowFrames, FollowLists, WholeFrame, frames_shown}
-use Rattle.ds_machine.proofs.Words.{framed_of, last_frame, last_lists, lists_shown, Shown, after_event, after_geometry, after_line, after_video}
-use Rattle.ds_machine.proofs.Words.{due_by, reference_step, shown_at, step_by, swapped_if, video_step, MachineState, left_by, ended, gone_by}
-use Rattle.ds_machine.proofs.Words.{machine_concluded, map_of, with_map, machine_graft, unchanged_by, ScanState, framed_by, scan_due, scan_due_tick}
-use Rattle.ds_machine.proofs.Words.{starts_vblank, VideoState, answer_unless, video_shown, video_stop}
+use Rattle.ds_machine.proofs.Words.{Bool, Cost, Dma, Geometry, GeometryCommand, Goes, GxState, Halted, IoState, KeyScript, Left, LeftOut, List}
+use Rattle.ds_machine.proofs.Words.{MachineState, MachineStep, Makes, Nine, None, Option, Proc, Processor, ScanState, Seven, Shown, Some, Stop, Stops}
+use Rattle.ds_machine.proofs.Words.{Swapped, Tick, Timer, Video, VideoState, WholeFrame, [], actor_of, after_event, after_geometry, after_line}
+use Rattle.ds_machine.proofs.Words.{after_video, answer_unless, ap, arith, begun, channel_step, complete_command, done_by, done_video, due_by, ended}
+use Rattle.ds_machine.proofs.Words.{false, framed_by, framed_of, frames_shown, geometry_after, geometry_done, gone_by, gx_swapped, happened_scan}
+use Rattle.ds_machine.proofs.Words.{happened_whole, if◌then◌else◌, io_due, last_frame, last_lists, last_or, left_by, lists_shown, machine_concluded}
+use Rattle.ds_machine.proofs.Words.{machine_graft, map_of, moved_by, next_unit, not_both, option_map, reference_step, refl, same_makes, scan_due}
+use Rattle.ds_machine.proofs.Words.{scan_due_tick, shown_at, starts_vblank, step_by, subst, swapped, swapped_if, sym, true, true≢false, unchanged_by}
+use Rattle.ds_machine.proofs.Words.{unit_moved, unit_refusal, video_done, video_shown, video_step, video_stop, with_map, ℕ, ◌<◌, ◌==◌, ◌∙◌, ◌∷◌, ◌≡◌}
+use Rattle.ds_machine.specs.FrameLaws.{FollowFrames, FollowLists, StepsFollowFrames, StepsFollowLists, StopsLeaveFrames, StopsLeaveLists}
 use Rattle.arm_core.specs.declared.outcomes.Stepped as arm
-use Rattle.ds_ports.specs.Io.{geometry_done}
-use Rattle.gx_fifo.specs.Entries.{begun}
-use Rattle.gx_fifo.specs.GxStates.{gx_swapped}
-use Rattle.gx_geometry.specs.States.{swapped}
-use Rattle.ds_ports.proofs.Events.{done_video, happened_scan, happened_whole}
 use Rattle.ds_runs.specs.declared.actors.Actor as actor
-use Rattle.ds_machine.specs.FrameLaws.{StepsFollowFrames, StepsFollowLists, StopsLeaveFrames, StopsLeaveLists}
 use Rattle.ds_machine.proofs.ChannelEvents.{channel_made, channel_unchanged, read_left, unit_lists, unit_video, unit_whole}
 use Rattle.ds_machine.proofs.MachineSchedule.{Steps, awake_stops, channel_timers, operation, step_made_as, steps_here}
 use Rattle.ds_machine.proofs.ProcessorSteps.{Took, came_by, concluded_stops, concludes, costs_some, goes, reached_by, step_is}

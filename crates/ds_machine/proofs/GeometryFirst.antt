@@ -1,7 +1,6 @@
-use Rattle.ds_machine.proofs.Words.{ℕ, ◌≡◌, ◌<◌, ◌≤◌, ◌⊎◌, inl, inr, Some, sym, ◌∙◌, ap, subst, arith, same_Some, low_or_high, Tick, IsLeast, due_at}
-use Rattle.ds_machine.proofs.Words.{acting_dues, ComesBeforeAll, dues_of, MachineState}
+use Rattle.ds_machine.proofs.Words.{ComesBeforeAll, IsLeast, MachineState, Some, Tick, acting_dues, ap, arith, due_at, due_of_rank, dues_of, inl, inr}
+use Rattle.ds_machine.proofs.Words.{low_or_high, same_Some, subst, sym, ℕ, ◌<◌, ◌∙◌, ◌≡◌, ◌≤◌, ◌⊎◌}
 use Rattle.ds_machine.proofs.ActingDues.{acts_then}
-use Rattle.ds_machine.proofs.DueTicks.{due_of_rank}
 
 -- Of an actor that is the least acting one and of geometry, the one that comes first is the least of all.
 

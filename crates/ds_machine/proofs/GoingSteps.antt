@@ -1,19 +1,18 @@
-use Rattle.ds_machine.proofs.Words.{ℕ, ◌≡◌, ◌≢◌, ◌<◌, ◌≤◌, ◌-◌, ◌^◌, ◌⊎◌, inl, inr, if◌then◌else◌, Bool, true, false, List, ◌∷◌, Option, Some, refl}
-use Rattle.ds_machine.proofs.Words.{sym, ◌∙◌, ap, subst, arith, [], same_Some, lt_or_same, same_or_not, Proc, Nine, Seven, Tick, Width, Half, Word}
-use Rattle.ds_machine.proofs.Words.{RegisterState, is_thumb, other_proc, actor_of, IsLeast, Makes, due_at, Processor, within, acting_dues}
-use Rattle.ds_machine.proofs.Words.{CatchesUpFor, CatchesUpIf, TakesGeometry, observes_by, IsNextEvent, TookStep, acting_events_of, least_of}
-use Rattle.ds_machine.proofs.Words.{past_other, IsAhead, IsBelowFence, ProcessorStaysPrivate, rank_of, BelongsToTurn, TakesSteps, more_steps}
-use Rattle.ds_machine.proofs.Words.{no_steps, ComesFirst, HasLimit, MayStep, Fences, geometry_rank, awake, due_unless, processor_due, step_by}
-use Rattle.ds_machine.proofs.Words.{stepped_of, MachineState, ProcessorState, HasBothStatuses, nine_side, seven_side, is_blocked, line_of, nine_reach}
-use Rattle.ds_machine.proofs.Words.{outcome_of, processor_of, seven_reach, tick_of, with_processor, FetchStaysPrivate, is_private_to, NextEvent}
-use Rattle.ds_machine.proofs.Words.{IsRunning, last_limit}
+use Rattle.ds_machine.proofs.Words.{BelongsToTurn, Bool, CatchesUpFor, CatchesUpIf, Fences, FetchStaysPrivate, Half, HasBothStatuses, HasLimit}
+use Rattle.ds_machine.proofs.Words.{IsAhead, IsBelowFence, IsLeast, IsRunning, List, MachineState, Makes, MayStep, NextEvent, Nine, Option, Proc}
+use Rattle.ds_machine.proofs.Words.{Processor, ProcessorState, ProcessorStaysPrivate, RegisterState, Seven, Some, TakesGeometry, TakesSteps, Tick}
+use Rattle.ds_machine.proofs.Words.{TookStep, Width, Word, [], acting_dues, acting_events_of, actor_of, ap, arith, awake, due_at, due_unless, false}
+use Rattle.ds_machine.proofs.Words.{geometry_rank, if◌then◌else◌, inl, inr, is_blocked, is_private_to, is_thumb, last_limit, line_of, lt_or_same}
+use Rattle.ds_machine.proofs.Words.{more_steps, nine_reach, nine_side, no_steps, observes_by, other_proc, outcome_of, processor_due, processor_of}
+use Rattle.ds_machine.proofs.Words.{rank_of, rank_there, refl, same_Some, same_or_not, seven_reach, seven_side, step_by, stepped_of, steps_as, subst}
+use Rattle.ds_machine.proofs.Words.{sym, tick_of, true, with_processor, within, ℕ, ◌-◌, ◌<◌, ◌^◌, ◌∙◌, ◌∷◌, ◌≡◌, ◌≢◌, ◌≤◌, ◌⊎◌}
+use Rattle.ds_machine.specs.NextEvents.{IsNextEvent, least_of, past_other, line_kept}
+use Rattle.ds_machine.specs.TurnLaws.{ComesFirst}
 use Rattle.ds_runs.specs.declared.actors.Actor as actor
 use Rattle.ds_machine.specs.Lagging as geometry
-use Rattle.ds_machine.specs.NextEvents.{line_kept}
 use Rattle.ds_machine.specs.Touching.{DataStaysPrivate, MayBeAhead}
 use Rattle.ds_machine.specs.declared.answers.Done.TheVariants as answers
 use Rattle.ds_machine.proofs.ActingDues.{acting_processor, acting_split}
-use Rattle.ds_machine.proofs.DueTicks.{rank_there, steps_as}
 use Rattle.ds_machine.proofs.DecodedStays.{fetch_by_words}
 use Rattle.ds_machine.proofs.FastSteps.{in_front}
 use Rattle.ds_machine.proofs.OwnRemaining.{turn_steps_fall}

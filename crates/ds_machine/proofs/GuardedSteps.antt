@@ -1,17 +1,12 @@
-use Rattle.ds_machine.proofs.Words.{ℕ, ◌≡◌, ◌≤◌, nat_lt, if◌then◌else◌, Bool, true, false, List, [], ◌∷◌, Option, Some, None, refl, ◌∙◌, ap, arith}
-use Rattle.ds_machine.proofs.Words.{or_parts, Access, Fetch, Performed, Read, Write, perform, refused_or, with_value, Stop, Width, V5, Proc, Nine}
-use Rattle.ds_machine.proofs.Words.{Seven, Tick, condition_of, Instr, holds, Meaning, carried_out, concluded, undefined_meaning, meaning, skipped}
-use Rattle.ds_machine.proofs.Words.{RegisterState, Setting, executed_unless, executed_word, stop_of, RefusesNoneInRam, operation_meaning, Operation}
-use Rattle.ds_machine.proofs.Words.{arm9, move_of, vectors_of, tcm_of, Tcm, Itcm, Dtcm, Past, channel_due, map_refusal, guarded_memory, is_guarded}
-use Rattle.ds_machine.proofs.Words.{MapState, NineReach, nine_memory, tcm_refusal, nine_refusal, nine_written, io_due, IoState, blocks_processor, Dma}
-use Rattle.ds_machine.proofs.Words.{Processor, is_stalled, waiting_entries, IsFree, due_by, FindsRoom, nine_executed, HasSoundParts, MachineState}
-use Rattle.ds_machine.proofs.Words.{is_blocked, processor_of}
-use Rattle.ds_map.specs.Guards.{tcm_guarded_refusal}
-use Rattle.ds_map.proofs.Guards.{room_meets_none}
+use Rattle.ds_machine.proofs.Words.{Access, Bool, Dma, Dtcm, Fetch, FindsRoom, HasRoom, HasSoundParts, Instr, IoState, IsFree, IsFreeFor, Itcm, List}
+use Rattle.ds_machine.proofs.Words.{MachineState, MapState, Meaning, Nine, NineReach, None, Operation, Option, Past, Performed, Proc, Processor, Read}
+use Rattle.ds_machine.proofs.Words.{RefusesNoneInRam, RegisterState, Setting, Seven, Some, Stop, Tcm, Tick, V5, Width, Write, [], ap, arith, arm9}
+use Rattle.ds_machine.proofs.Words.{blocks_processor, carried_out, channel_due, concluded, condition_of, due_by, due_then, executed_unless}
+use Rattle.ds_machine.proofs.Words.{executed_word, false, guarded_memory, holds, if◌then◌else◌, io_due, is_blocked, is_guarded, is_stalled}
+use Rattle.ds_machine.proofs.Words.{map_refusal, meaning, move_of, nat_lt, nine_executed, nine_memory, nine_refusal, nine_written, operation_meaning}
+use Rattle.ds_machine.proofs.Words.{or_parts, perform, processor_of, refl, refused_or, room_meets_none, skipped, stop_of, tcm_guarded_refusal, tcm_of}
+use Rattle.ds_machine.proofs.Words.{tcm_refusal, true, undefined_meaning, vectors_of, waiting_entries, with_value, ℕ, ◌∙◌, ◌∷◌, ◌≡◌, ◌≤◌}
 use Rattle.ds_ports.specs.Guards.{is_overfull}
-use Rattle.ds_machine.specs.GuardedSteps.{IsFreeFor}
-use Rattle.ds_machine.specs.Rooms.{HasRoom}
-use Rattle.ds_machine.proofs.DueTicks.{due_then}
 use Rattle.ds_machine.proofs.FewAccesses.{operations_are_short}
 use Rattle.ds_machine.proofs.RamAccesses.{nine_refuses_none}
 use Rattle.ds_machine.proofs.Rooms.{due_unstalled, few_have_room, instructions_find_room}

@@ -1,12 +1,11 @@
-use Rattle.ds_machine.proofs.Words.{ℕ, ◌≡◌, ◌⊎◌, inl, inr, Bool, true, false, true≢false, if◌then◌else◌, List, [], ◌∷◌, Option, max, refl, sym, ◌∙◌}
-use Rattle.ds_machine.proofs.Words.{ap, subst, ◌&&◌, not, Cost, Halted, Left, KeyLine, LeftOut, Proc, Nine, Seven, Tick, other_proc, next_unit}
-use Rattle.ds_machine.proofs.Words.{IoState, io_at_boot, io_of, stall_ends, tick_after, Happens, event_goes, keys_happen, of_both, same_makes}
-use Rattle.ds_machine.proofs.Words.{actor_of, At, Ending, IsLeast, Makes, Runs, over, stops, more, KeyScript, Video, Geometry, Dma, Processor}
-use Rattle.ds_machine.proofs.Words.{channel_step, Shown, after_event, after_geometry, after_line, after_video, display_done, dues_of, reference}
-use Rattle.ds_machine.proofs.Words.{reference_step, step_by, HasSoundParts, MachineState, ProcessorState, ended, gone_by, goes_on, is_halted}
-use Rattle.ds_machine.proofs.Words.{machine_settled, processor_of, wakes, woken, woken_one, scan_due_tick}
+use Rattle.ds_machine.proofs.Words.{At, Bool, Cost, Dma, DmaUnit, Ending, Geometry, Halted, Happens, HasSoundParts, IoState, IsLeast, KeyLine}
+use Rattle.ds_machine.proofs.Words.{KeyScript, Left, LeftOut, List, MachineState, Makes, Nine, Option, Proc, Processor, ProcessorState, Runs, Seven}
+use Rattle.ds_machine.proofs.Words.{Shown, Tick, Video, [], actor_of, after_event, after_geometry, after_line, after_video, ap, channel_step}
+use Rattle.ds_machine.proofs.Words.{display_done, dues_of, ended, event_goes, false, goes_on, gone_by, if◌then◌else◌, inl, inr, io_at_boot, io_of}
+use Rattle.ds_machine.proofs.Words.{is_halted, keys_happen, machine_settled, max, more, next_unit, not, of_both, other_proc, over, processor_of}
+use Rattle.ds_machine.proofs.Words.{reference, reference_step, refl, same_makes, scan_due_tick, stall_ends, step_by, stops, subst, sym, tick_after}
+use Rattle.ds_machine.proofs.Words.{true, true≢false, wakes, woken, woken_one, ℕ, ◌&&◌, ◌∙◌, ◌∷◌, ◌≡◌, ◌⊎◌}
 use Rattle.arm_core.specs.declared.outcomes.Stepped as arm
-use Rattle.ds_dma.specs.declared.channels.Unit.{Unit as DmaUnit}
 use Rattle.ds_runs.specs.Runs as runs
 use Rattle.ds_runs.specs.declared.actors.Actor as actor
 use Rattle.ds_machine.specs.HaltingLaws.{BootsKeepNoMore, KeepsNoMore, RunsKeepNoMore}

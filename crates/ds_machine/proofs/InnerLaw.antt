@@ -1,20 +1,16 @@
-use Rattle.ds_machine.proofs.Words.{ℕ, ◌≡◌, ◌≢◌, ◌<◌, ◌+◌, arith, Bool, true, false, List, [], Some, refl, sym, ◌∙◌, ap, subst, IsLater, LeftOut}
-use Rattle.ds_machine.proofs.Words.{Proc, Nine, Seven, Tick, Outcome, RegisterState, enters, Cost, Halted, Left, NineReach, SevenReach, nine_memory}
-use Rattle.ds_machine.proofs.Words.{seven_memory, IsSharedSo, is_beyond_seven, is_shown_to_nine, IsIo, IoState, is_settled, ProcessorIoState}
-use Rattle.ds_machine.proofs.Words.{MachineStep, Makes, Processor, shares_bit, mixed, mixed_length, mixed_same, mixed_twice, NineOwn, nine_own_of}
-use Rattle.ds_machine.proofs.Words.{with_nine_own, with_seven_part, IsHarmless, IsPrivate, ProcessorStaysPrivate, StaysPrivate, Shown, awake, due_by}
-use Rattle.ds_machine.proofs.Words.{due_unless, processor_due, reference_step, AreAsleep, IsSound, nine_side, seven_side, side_taken, side_waits}
-use Rattle.ds_machine.proofs.Words.{MachineState, ProcessorState, SevenState, is_blocked, line_of, machine_concluded, nine_reach, processor_of}
-use Rattle.ds_machine.proofs.Words.{seven_reach, tick_of, went_on, with_nine, with_processor, with_seven}
-use Rattle.std.proofs.Common.{◌&&◌}
+use Rattle.ds_machine.proofs.Words.{AreAsleep, Bool, Cost, Halted, IoState, IsHarmless, IsIo, IsLater, IsPrivate, IsSharedSo, IsSound, Left, LeftOut}
+use Rattle.ds_machine.proofs.Words.{List, MachineState, MachineStep, Makes, Nine, NineOwn, NineReach, Outcome, Proc, Processor, ProcessorIoState}
+use Rattle.ds_machine.proofs.Words.{ProcessorState, ProcessorStaysPrivate, RegisterState, Seven, SevenReach, SevenState, Shown, Some, StaysPrivate}
+use Rattle.ds_machine.proofs.Words.{Tick, [], ap, arith, awake, due_by, due_unless, enters, false, is_beyond_seven, is_blocked, is_deaf, is_settled}
+use Rattle.ds_machine.proofs.Words.{is_shown_to_nine, line_of, machine_concluded, mixed, mixed_length, mixed_same, mixed_twice, nine_memory}
+use Rattle.ds_machine.proofs.Words.{nine_own_of, nine_reach, nine_side, processor_due, processor_of, reference_step, refl, seven_memory, seven_reach}
+use Rattle.ds_machine.proofs.Words.{seven_side, shared_put, shares_bit, side_taken, side_waits, steps_as, subst, sym, tick_of, true, went_on}
+use Rattle.ds_machine.proofs.Words.{with_nine, with_nine_own, with_processor, with_seven, with_seven_part, ℕ, ◌&&◌, ◌+◌, ◌<◌, ◌∙◌, ◌≡◌, ◌≢◌}
 use Rattle.arm_core.specs.declared.outcomes.Stepped as arm
-use Rattle.ds_map.specs.ShareLaws.{shared_put}
 use Rattle.ds_ports.specs.Io.{with_shares}
 use Rattle.ds_runs.specs.declared.actors.Actor as actor
 use Rattle.vram_banks.specs.Cells as cells
 use Rattle.ds_machine.specs.Apart.{with_nine_part}
-use Rattle.ds_machine.specs.Private.{is_deaf}
-use Rattle.ds_machine.proofs.DueTicks.{steps_as}
 use Rattle.ds_machine.proofs.FastSteps.{cost_ends}
 use Rattle.ds_machine.proofs.Moves.{later_unless}
 use Rattle.ds_machine.proofs.OwnShares.{is_shared_so}

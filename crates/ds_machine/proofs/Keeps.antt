@@ -1,8 +1,7 @@
-use Rattle.ds_machine.proofs.Words.{ℕ, ◌≡◌, Bool, true, false, if◌then◌else◌, List, [], ◌∷◌, Option, Some, None, Access, Fetch, MemoryMachine}
-use Rattle.ds_machine.proofs.Words.{Performed, Read, Write, perform, refused_or, Stop, Width, Arch, condition_of, Instr, holds, Meaning, Outcome}
-use Rattle.ds_machine.proofs.Words.{carried_out, concluded, interrupt_meaning, undefined_meaning, meaning, skipped, RegisterState, Setting, enters}
-use Rattle.ds_machine.proofs.Words.{executed_word, fetched, stop_of, data_accesses, taken, SideOf, side_taken}
-use Rattle.ds_base.proofs.Choices.{either_by}
+use Rattle.ds_machine.proofs.Words.{Access, Arch, Bool, Fetch, Instr, List, Meaning, MemoryMachine, None, Option, Outcome, Performed, Read}
+use Rattle.ds_machine.proofs.Words.{RegisterState, Setting, SideOf, Some, Stop, Width, Write, [], carried_out, concluded, condition_of, data_accesses}
+use Rattle.ds_machine.proofs.Words.{either_by, enters, executed_word, false, fetched, holds, if◌then◌else◌, interrupt_meaning, meaning, perform}
+use Rattle.ds_machine.proofs.Words.{refused_or, side_taken, skipped, stop_of, taken, true, undefined_meaning, ℕ, ◌∷◌, ◌≡◌}
 use Rattle.arm_core.specs.Steps as steps
 
 -- What each access of a memory machine makes of its state, a step over it makes of it.

@@ -1,25 +1,23 @@
-use Rattle.ds_machine.proofs.Words.{◌||◌, not, ℕ, ◌≡◌, ◌≢◌, ◌+◌, ◌==◌, Bool, true, false, true≢false, if◌then◌else◌, List, [], ◌∷◌, length, Option}
-use Rattle.ds_machine.proofs.Words.{Some, None, refl, sym, ◌∙◌, ap, subst, or_from, or_parts, and_false, either, Access, Fetch, Read, Write, KeyLine}
-use Rattle.ds_machine.proofs.Words.{LeftOut, Stop, Width, V5, Proc, Nine, Seven, Tick, Instr, Outcome, RegisterState, FetchOutcome, enters, fetched}
-use Rattle.ds_machine.proofs.Words.{Cost, Halted, Left, arm9, move_of, Moved, Cp15State, vectors_of, tcm_of, Tcm, Dtcm, Itcm, Past, Channel}
-use Rattle.ds_machine.proofs.Words.{is_running, is_enabled, DmaState, awaits_geometry, channel_at, dma_due, card_after_event, card_due, card_starter}
-use Rattle.ds_machine.proofs.Words.{awaits_none, MapState, next_unit, unit_moved, unit_refusal, NineReach, nine_memory, tcm_fetched, tcm_read}
-use Rattle.ds_machine.proofs.Words.{tcm_refusal, tcm_value, tcm_written, place_of, Place, Banks, Cell, Nothing, Port, Rom, io_due, IoState}
-use Rattle.ds_machine.proofs.Words.{both_raised, card_done_at, channels_triggered, io_event, keys_pressed, level_told, release_by, release_kept}
-use Rattle.ds_machine.proofs.Words.{settled, shown_to_others, starter_told, video_done, with_gx, processor_io_triggered, MachineStep, Makes}
-use Rattle.ds_machine.proofs.Words.{KeyScript, Video, Timer, Geometry, Card, Dma, Processor, same_makes, irq_levelled, GxState, gx_level}
-use Rattle.ds_machine.proofs.Words.{is_half_empty, is_stalled, scan_due, scan_due_tick, starts_vblank, answer_unless, unless_stop, video_after_event}
-use Rattle.ds_machine.proofs.Words.{video_shown, video_stop, machine_graft, step_with, unchanged_by, channel_step, delayed_past, moved_by, one_event}
-use Rattle.ds_machine.proofs.Words.{access_observes, any_observes, is_observed_past, is_observed_place, nine_observes, observes_by, any_armed}
-use Rattle.ds_machine.proofs.Words.{data_accesses, nine_executed, Shown, after_event, after_line, after_video, shown_at, step_by, swapped_if}
-use Rattle.ds_machine.proofs.Words.{video_step, nine_wait, nine_side, side_taken, side_waits, MachineState, left_by, ended, goes_on, line_of}
-use Rattle.ds_machine.proofs.Words.{machine_concluded, machine_settled, map_of, nine_reach, tick_of, wakes, with_io, with_map, with_nine, woken}
-use Rattle.ds_machine.proofs.Words.{woken_one}
-use Rattle.std.proofs.Common.{◌&&◌}
+use Rattle.ds_machine.proofs.Words.{Access, Banks, Bool, Card, Cell, Channel, Cost, Cp15State, Dma, DmaState, DmaUnit, Dtcm, Fetch, FetchOutcome}
+use Rattle.ds_machine.proofs.Words.{Geometry, GxState, Halted, Instr, IoState, Itcm, KeyLine, KeyScript, Left, LeftOut, List, MachineState}
+use Rattle.ds_machine.proofs.Words.{MachineStep, Makes, MapState, Moved, Nine, NineReach, None, Nothing, Option, Outcome, Past, Place, Port, Proc}
+use Rattle.ds_machine.proofs.Words.{Processor, Read, RegisterState, Rom, Seven, Shown, Some, Stop, Tcm, Tick, Timer, V5, Video, Width, Write, []}
+use Rattle.ds_machine.proofs.Words.{access_observes, after_event, after_line, after_video, and_false, answer_unless, any_armed, any_observes, ap}
+use Rattle.ds_machine.proofs.Words.{arm9, awaits_geometry, awaits_none, both_raised, card_after_event, card_done_at, card_due, card_starter}
+use Rattle.ds_machine.proofs.Words.{channel_at, channel_observes, channel_step, channels_triggered, data_accesses, delayed_past, dma_due, either}
+use Rattle.ds_machine.proofs.Words.{ended, enters, false, fetched, goes_on, gx_level, if◌then◌else◌, io_due, io_event, irq_levelled, is_half_empty}
+use Rattle.ds_machine.proofs.Words.{is_observed_past, is_observed_place, is_running, is_stalled, keys_pressed, left_by, length, level_told, line_of}
+use Rattle.ds_machine.proofs.Words.{machine_concluded, machine_graft, machine_settled, map_of, move_of, moved_by, next_unit, nine_executed}
+use Rattle.ds_machine.proofs.Words.{nine_memory, nine_observes, nine_reach, nine_side, nine_wait, not, observes_by, one_event, or_from, or_parts}
+use Rattle.ds_machine.proofs.Words.{place_of, processor_io_triggered, refl, release_by, release_kept, same_makes, scan_due, scan_due_tick, settled}
+use Rattle.ds_machine.proofs.Words.{shown_at, shown_to_others, side_taken, side_waits, starter_told, starts_vblank, step_by, step_with, subst}
+use Rattle.ds_machine.proofs.Words.{swapped_if, sym, tcm_of, tcm_read, tcm_refusal, tcm_written, tick_of, true, true≢false, unchanged_by, unit_moved}
+use Rattle.ds_machine.proofs.Words.{unit_refusal, unless_stop, vectors_of, video_after_event, video_done, video_shown, video_step, video_stop, wakes}
+use Rattle.ds_machine.proofs.Words.{with_gx, with_io, with_map, with_nine, woken, woken_one, ℕ, ◌&&◌, ◌+◌, ◌==◌, ◌||◌, ◌∙◌, ◌∷◌, ◌≡◌, ◌≢◌}
+use Rattle.ds_dma.specs.Controls.{is_enabled, waits_for}
+use Rattle.ds_machine.proofs.NineReads.{tcm_fetched, tcm_value}
 use Rattle.arm_core.specs.declared.outcomes.Stepped as arm
 use Rattle.ds_dma.specs.Channels.{is_triggered}
-use Rattle.ds_dma.specs.Controls.{waits_for}
-use Rattle.ds_dma.specs.declared.channels.Unit.{Unit as DmaUnit}
 use Rattle.ds_card.specs.Cards.{event_readies}
 use Rattle.ds_dma.specs.declared.controls.Cause.TheVariants as causes
 use Rattle.ds_map.proofs.GxApart as gx_map
@@ -28,7 +26,6 @@ use Rattle.ds_ports.proofs.Arms.{ArmsNoMore, KeepsControls, armed, arms_by, arms
 use Rattle.ds_ports.proofs.GxApart.{channel_due_apart, event_apart, video_apart}
 use Rattle.ds_runs.specs.declared.actors.Actor as actor
 use Rattle.gx_fifo.specs.GxStates.{shown_count}
-use Rattle.ds_machine.specs.Lagging.{channel_observes}
 use Rattle.ds_ports.specs.Acting.{is_armed}
 use Rattle.ds_machine.proofs.Commutes.{Commutes, outcome_so, step_waits_commute, taken_commutes, word_commutes}
 use Rattle.ds_machine.proofs.Ticks.{ticked, ticked_so}

@@ -1,14 +1,12 @@
-use Rattle.ds_machine.proofs.Words.{ℕ, ◌≡◌, ◌≢◌, ◌<◌, ◌≤◌, ◌⊎◌, inl, inr, true, false, List, [], Option, Some, None, refl, sym, ◌∙◌, ap, subst, arith}
-use Rattle.ds_machine.proofs.Words.{is_some, true_or_false, IsLater, Reschedules, LeftOut, Tick, IsNumbered, actor_of, actors, StepsBefore, IsLeast}
-use Rattle.ds_machine.proofs.Words.{MachineStep, Makes, Stops, due_at, Geometry, at_rank, is_later, least_unique, same_makes, AreWaiting, GxState}
-use Rattle.ds_machine.proofs.Words.{gx_finished, is_stalled, step_with, StepsBeforeGeometry, any_armed, is_quiet, acting_due, acting_dues, Shown}
-use Rattle.ds_machine.proofs.Words.{awake, due_by, dues_of, reference, reference_step, step_by, HasSoundParts, IsSound, MachineState, ended}
-use Rattle.ds_runs.specs.Lags.{MayLag, MayStepFirst}
+use Rattle.ds_machine.proofs.Words.{AreWaiting, Geometry, GxState, HasSoundParts, IsLater, IsLeast, IsNumbered, IsSound, LagRuns, LagStops, LeftOut}
+use Rattle.ds_machine.proofs.Words.{List, MachineState, MachineStep, Makes, MayLag, MayStepFirst, None, Option, Reschedules, Shown, Some, StepsBefore}
+use Rattle.ds_machine.proofs.Words.{StepsBeforeGeometry, Stops, Tick, [], acting_due, acting_dues, actor_of, actors, any_armed, ap, arith, at_rank}
+use Rattle.ds_machine.proofs.Words.{awake, due_at, due_by, due_of_least, due_of_rank, dues_of, ended, false, gx_finished, inl, inr, is_later}
+use Rattle.ds_machine.proofs.Words.{is_quiet, is_some, is_stalled, least_unique, reference, reference_step, refl, same_makes, step_by, step_with}
+use Rattle.ds_machine.proofs.Words.{steps_as, subst, sym, true, true_or_false, ℕ, ◌<◌, ◌∙◌, ◌≡◌, ◌≢◌, ◌≤◌, ◌⊎◌}
 use Rattle.ds_runs.specs.declared.actors.Actor as actor
 use Rattle.ds_runs.proofs.Lags as lags
-use Rattle.ds_machine.specs.Lagging.{LagRuns, LagStops}
 use Rattle.ds_machine.proofs.ActingDues.{acting_low, acting_of_rank, acts_where_due, loud_same, maps_same}
-use Rattle.ds_machine.proofs.DueTicks.{due_of_least, due_of_rank, steps_as}
 use Rattle.ds_machine.proofs.GeometryFirst.{least_acting, least_geometry, not_later, one_first}
 use Rattle.ds_machine.proofs.LagCommutes.{apart_commutes, arms_left, ended_disarmed, ended_gx_left, ended_late, gx_commutes, gx_left, gx_put, late_put}
 use Rattle.ds_machine.proofs.LagSteps.{QuietLeaves, acting_same, due_so, is_geometry, observes_same, others_due, quiet_acts_never, quiet_leaves, quiet_parts, quiet_step, quiet_where_due, sound_late}

@@ -1,20 +1,17 @@
-use Rattle.ds_machine.proofs.Words.{ℕ, ◌≡◌, ◌≢◌, ◌%◌, ◌^◌, ◌==◌, Bool, true, false, true≢false, if◌then◌else◌, List, [], ◌∷◌, Option, Some, None}
-use Rattle.ds_machine.proofs.Words.{refl, sym, ◌∙◌, ap, ◌&&◌, ◌||◌, not, is_some, and_parts, not-true, equal, is_equal, Access, Fetch, Read, Write}
-use Rattle.ds_machine.proofs.Words.{IsLater, LeftOut, Width, Half, Word, Arch, Proc, Nine, Seven, Tick, RegisterState, is_thumb, enters, fetched}
-use Rattle.ds_machine.proofs.Words.{fetched_half, fetched_word, decoded_arm, decoded_thumb, Instr, tcm_of, Tcm, Itcm, Dtcm, Past, awaits_geometry}
-use Rattle.ds_machine.proofs.Words.{channel_due, dma_due, fetched_at, map_fetched, MapState, NineReach, nine_memory, tcm_fetched, place_of, Place}
-use Rattle.ds_machine.proofs.Words.{Cell, Banks, Port, Rom, Nothing, held_due, IoState, is_settled, release_by, release_of, tick_after, stall_ends}
-use Rattle.ds_machine.proofs.Words.{with_gx, blocks_processor, MachineStep, Makes, Video, Timer, Geometry, Dma, Processor, actors, irq_levelled}
-use Rattle.ds_machine.proofs.Words.{complete_command, GxState, done_by, gx_finished, gx_level, is_half_empty, is_stalled, GeometryCommand, one_event}
-use Rattle.ds_machine.proofs.Words.{access_observes, any_observes, nine_observes, observes_by, any_armed, is_quiet, acting_due, acting_dues}
-use Rattle.ds_machine.proofs.Words.{data_accesses, Shown, after_geometry, due_by, due_unless, reference_step, IsSound, nine_side, MachineState, ended}
-use Rattle.ds_machine.proofs.Words.{line_of, nine_reach, tick_of, wakes, with_io, with_processor}
-use Rattle.std.specs.Prelude.{max}
-use Rattle.ds_ports.proofs.Settles.{no_stall_begins}
+use Rattle.ds_machine.proofs.Words.{Access, Arch, Banks, Bool, Cell, Dma, Dtcm, Fetch, Geometry, GeometryCommand, GxState, Half, Instr, IoState}
+use Rattle.ds_machine.proofs.Words.{IsLater, IsSound, Itcm, LeftOut, List, MachineState, MachineStep, Makes, MapState, Nine, NineReach, None, Nothing}
+use Rattle.ds_machine.proofs.Words.{Option, Past, Place, Port, Proc, Processor, Read, RegisterState, Rom, Seven, Shown, Some, Tcm, Tick, Timer, Video}
+use Rattle.ds_machine.proofs.Words.{Width, Word, Write, [], access_observes, acting_due, acting_dues, actors, after_geometry, and_parts, any_armed}
+use Rattle.ds_machine.proofs.Words.{any_observes, ap, awaits_geometry, blocks_processor, channel_due, complete_command, data_accesses, decoded_arm}
+use Rattle.ds_machine.proofs.Words.{decoded_thumb, dma_due, done_by, due_by, due_unless, ended, enters, equal, false, fetched, fetched_at}
+use Rattle.ds_machine.proofs.Words.{fetched_half, fetched_word, finished_later, finished_waiting, gx_finished, gx_level, held_due, if◌then◌else◌}
+use Rattle.ds_machine.proofs.Words.{irq_levelled, is_equal, is_half_empty, is_quiet, is_settled, is_some, is_stalled, is_thumb, line_of, map_fetched}
+use Rattle.ds_machine.proofs.Words.{max, nine_memory, nine_observes, nine_reach, nine_side, no_stall_begins, not, not-true, observes_by, one_event}
+use Rattle.ds_machine.proofs.Words.{place_of, reference_step, refl, release_by, release_of, stall_ends, steps_as, sym, tcm_of, tick_after, tick_of}
+use Rattle.ds_machine.proofs.Words.{true, true≢false, wakes, with_gx, with_io, with_processor, ℕ, ◌%◌, ◌&&◌, ◌==◌, ◌^◌, ◌||◌, ◌∙◌, ◌∷◌, ◌≡◌, ◌≢◌}
+use Rattle.ds_machine.proofs.NineReads.{tcm_fetched}
 use Rattle.ds_runs.specs.declared.actors.Actor as actor
-use Rattle.gx_fifo.proofs.Laws.{finished_later, finished_waiting}
 use Rattle.ds_machine.proofs.ActingDues.{maps_same}
-use Rattle.ds_machine.proofs.DueTicks.{steps_as}
 use Rattle.ds_machine.proofs.FastSteps.{end_stays}
 use Rattle.ds_machine.proofs.LagCommutes.{gx_put, late_put, none_awaits, silent_level}
 

@@ -1,4 +1,4 @@
-use Rattle.ds_machine.proofs.Words.{ℕ, ◌<◌, ◌^◌, List, length, AreKeyLines, line_at, KeyLine}
+use Rattle.ds_machine.proofs.Words.{AreKeyLines, KeyLine, List, length, line_at, ℕ, ◌<◌, ◌^◌}
 
 -- A line of a key script tells of twelve keys.
 

@@ -1,20 +1,17 @@
-use Rattle.ds_machine.proofs.Words.{not, ◌&&◌, ◌||◌, le-max_right, ℕ, suc, ◌≡◌, ◌<◌, ◌+◌, inl, inr, Bool, true, false, true≢false, if◌then◌else◌}
-use Rattle.ds_machine.proofs.Words.{List, [], ◌∷◌, length, Option, Some, None, refl, sym, ◌∙◌, ap, subst, arith, same_Some, none-some, AreKeyLines}
-use Rattle.ds_machine.proofs.Words.{line_at, IsLater, Reschedules, KeyLine, LeftOut, Proc, Nine, Seven, Tick, next_unit, unit_read, IsIo}
-use Rattle.ds_machine.proofs.Words.{blocks_processor, IoState, io_event, io_of, is_settled, keys_pressed, tick_after, video_done, gx_finished}
-use Rattle.ds_machine.proofs.Words.{is_stalled, Happens, event_goes, keys_happen, happens_held, still_later, IsNumbered, actor_of, IsLeast}
-use Rattle.ds_machine.proofs.Words.{MachineStep, Makes, Stops, due_at, KeyScript, Video, Timer, Geometry, Dma, Processor, is_numbered, same_makes}
-use Rattle.ds_machine.proofs.Words.{not_both, channel_step, one_event, Shown, after_event, after_geometry, after_line, after_video, awake}
-use Rattle.ds_machine.proofs.Words.{display_done, due_by, due_unless, dues_of, keys_due, processor_due, reference, step_by, swapped_if}
-use Rattle.ds_machine.proofs.Words.{reference_step, AreAsleep, HasSoundParts, IsSound, MachineState, ProcessorState, ended, gone_by, is_blocked}
-use Rattle.ds_machine.proofs.Words.{map_of, processor_of, with_io, with_map, scan_due, scan_due_tick, starts_vblank, VideoState, video_stop}
-use Rattle.std.specs.Prelude.{max}
-use Rattle.ds_ports.proofs.Events.{happens_on, show_goes}
+use Rattle.ds_machine.proofs.Words.{AreAsleep, AreKeyLines, Bool, Dma, Geometry, Happens, HasSoundParts, IoState, IsIo, IsLater, IsLeast, IsNumbered}
+use Rattle.ds_machine.proofs.Words.{IsSound, KeyLine, KeyScript, LeftOut, List, MachineState, MachineStep, Makes, Nine, None, Option, Proc, Processor}
+use Rattle.ds_machine.proofs.Words.{ProcessorState, Reschedules, Schedules, Seven, Shown, Some, Stops, Tick, Timer, Video, VideoState, [], actor_of}
+use Rattle.ds_machine.proofs.Words.{after_event, after_geometry, after_line, after_video, ap, arith, awake, blocks_processor, channel_step}
+use Rattle.ds_machine.proofs.Words.{display_done, due_at, due_by, due_of_least, due_of_rank, due_then, due_unless, dues_of, ended, entries_are}
+use Rattle.ds_machine.proofs.Words.{event_goes, false, gone_by, gx_finished, happens_held, happens_on, if◌then◌else◌, inl, inr, io_event, io_of}
+use Rattle.ds_machine.proofs.Words.{is_blocked, is_numbered, is_settled, is_stalled, keys_due, keys_happen, keys_pressed, le-max_right, length}
+use Rattle.ds_machine.proofs.Words.{line_at, low_rank, map_of, max, next_unit, none-some, not, not_both, one_event, processor_due, processor_of}
+use Rattle.ds_machine.proofs.Words.{reference, reference_step, refl, same_Some, same_makes, scan_due, scan_due_tick, show_goes, somebody_is}
+use Rattle.ds_machine.proofs.Words.{starts_vblank, step_by, still_later, subst, suc, swapped_if, sym, tick_after, true, true≢false, unit_read}
+use Rattle.ds_machine.proofs.Words.{video_done, video_stop, with_io, with_map, ℕ, ◌&&◌, ◌+◌, ◌<◌, ◌||◌, ◌∙◌, ◌∷◌, ◌≡◌}
 use Rattle.ds_ports.proofs.Settles.{geometry_goes, swapped_happens}
-use Rattle.ds_runs.specs.Owed.{Schedules}
 use Rattle.ds_runs.specs.declared.actors.Actor as actor
 use Rattle.ds_machine.proofs.ChannelEvents.{machine_after_unit, channel_unchanged, channel_made, read_moves, read_sound, unit_later, unit_moves, unit_sound}
-use Rattle.ds_machine.proofs.DueTicks.{due_of_least, due_of_rank, due_then, entries_are, low_rank, somebody_is}
 use Rattle.ds_machine.proofs.Moves.{Moves, blocked_moves, moves_all, moves_of, then_all}
 use Rattle.ds_machine.proofs.ProcessorSteps.{Operation, came_by, concluded_stops, concludes, costs_some, gone_moves, gone_sound, processor_io_later, reached_by, reached_moves, reached_sound, step_is}
 use Rattle.ds_machine.proofs.Quiet.{comes_late, none_blocked, own_blocks, timers_later}

@@ -1,9 +1,8 @@
-use Rattle.ds_machine.proofs.Words.{ℕ, ◌≡◌, Bool, true, false, true≢false, if◌then◌else◌, List, [], Option, Some, None, refl, sym, ◌∙◌, ap, ◌&&◌}
-use Rattle.ds_machine.proofs.Words.{Access, MemoryMachine, Performed, perform, Stop, Arch, V4, condition_of, Instr, Coprocessor, Swi, ThumbSwi, holds}
-use Rattle.ds_machine.proofs.Words.{Meaning, carried_out, concluded, interrupt_meaning, undefined_meaning, act, condition, meaning, skipped}
-use Rattle.ds_machine.proofs.Words.{RegisterState, Setting, enters, executed_unless, executed_word, fetched, stop_of, equivalent, arm7, move_of}
-use Rattle.ds_machine.proofs.Words.{SevenReach, seven_memory, seven_side, side_taken, accesses_of, step_accesses}
-use Rattle.std.proofs.Common.{IsSome}
+use Rattle.ds_machine.proofs.Words.{Access, Arch, Bool, Coprocessor, Instr, IsSome, List, Meaning, MemoryMachine, None, Option, Performed}
+use Rattle.ds_machine.proofs.Words.{RegisterState, Setting, SevenReach, Some, Stop, Swi, ThumbSwi, V4, [], accesses_of, act, ap, arm7, carried_out}
+use Rattle.ds_machine.proofs.Words.{concluded, condition, condition_of, enters, equivalent, executed_unless, executed_word, false, fetched, holds}
+use Rattle.ds_machine.proofs.Words.{if◌then◌else◌, interrupt_meaning, meaning, move_of, perform, refl, seven_memory, seven_side, side_taken, skipped}
+use Rattle.ds_machine.proofs.Words.{step_accesses, stop_of, sym, true, true≢false, undefined_meaning, ℕ, ◌&&◌, ◌∙◌, ◌≡◌}
 use Rattle.ds_machine.proofs.Taken.{taken_entered, taken_executed}
 
 -- What a word or half that was fetched leaves of a memory machine is what its instruction's accesses leave: an undefined one makes none, nor does a

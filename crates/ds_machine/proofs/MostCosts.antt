@@ -1,24 +1,23 @@
-use Rattle.ds_machine.proofs.Words.{ℕ, ◌≡◌, ◌<◌, ◌≤◌, ◌/◌, ◌%◌, ◌^◌, ◌==◌, Bool, true, false, if◌then◌else◌, List, [], ◌∷◌, Option, Some, None, refl}
-use Rattle.ds_machine.proofs.Words.{arith, either, Access, MemoryMachine, Performed, perform, Stop, Arch, V4, V5, Proc, Nine, Seven, Tick}
-use Rattle.ds_machine.proofs.Words.{decoded_arm, condition_of, decoded_thumb, Instr, Bx, BlxRegister, Clz, Saturating, Smla, Smlaw, Smulw, Smlal}
-use Rattle.ds_machine.proofs.Words.{Smul, Mul, Mla, LongMultiply, Swap, HalfTransfer, Mrs, Msr, MsrImmediate, Compare, Move, Data, DoubleTransfer}
-use Rattle.ds_machine.proofs.Words.{Transfer, Multiple, Branch, Coprocessor, Swi, Never, ThumbAddress, ThumbLoadLiteral, ThumbBranchIf, ThumbBranch}
-use Rattle.ds_machine.proofs.Words.{ThumbBlPrefix, ThumbBlSuffix, HalfOp, Strh, Ldrh, Ldrsb, Ldrsh, count_listed, addressed, offset_value}
-use Rattle.ds_machine.proofs.Words.{short_offset_value, holds, Meaning, Outcome, carried_out, concluded, cost_of, enhanced_meaning, link_meaning}
-use Rattle.ds_machine.proofs.Words.{interrupt_meaning, undefined_meaning, act, act_branch, act_multiply, act_processing, condition, meaning, skipped}
-use Rattle.ds_machine.proofs.Words.{RegisterState, is_thumb, register, FetchOutcome, Setting, enters, executed_unless, executed_word, fetched}
-use Rattle.ds_machine.proofs.Words.{fetched_half, fetched_word, stop_of, equivalent, half_or_signed_meaning, load_meaning, signed_byte, signed_half}
-use Rattle.ds_machine.proofs.Words.{signed_half_meaning, word_or_byte_meaning, has_coprocessor, Addressed, Cost, Halted, Left, arm7, arm9}
-use Rattle.ds_machine.proofs.Words.{carried_over, move_of, moved_if, register_moved, written_by, Moved, Cp15Register, Cp15State, write_answer, Byte}
-use Rattle.ds_machine.proofs.Words.{Half, Word, nine_most, seven_most, NineReach, nine_memory, seven_memory, SideOf, nine_side, seven_side}
-use Rattle.ds_machine.proofs.Words.{side_taken, side_waits, next_fetch, nine_executed, taken, waits_of_step, MachineState, in_ticks, line_of}
-use Rattle.ds_machine.proofs.Words.{nine_reach, outcome_of, seven_reach, listed_within}
-use Rattle.std.proofs.Common.{count_ones}
-use Rattle.ds_base.specs.Bits.{flag}
+use Rattle.ds_machine.proofs.Words.{Access, Addressed, Arch, Bool, Byte, Clz, Compare, Coprocessor, Cost, Cp15State, Data, DoubleTransfer}
+use Rattle.ds_machine.proofs.Words.{FetchOutcome, Half, HalfOp, HalfTransfer, Halted, Instr, Ldrh, Ldrsb, Ldrsh, Left, List, LongMultiply}
+use Rattle.ds_machine.proofs.Words.{MachineState, Meaning, MemoryMachine, Mla, Move, Moved, Mrs, Msr, MsrImmediate, Mul, Never, Nine, NineReach, None}
+use Rattle.ds_machine.proofs.Words.{Option, Outcome, Performed, Proc, RegisterState, Saturating, Setting, Seven, SideOf, Smla, Smlal, Smlaw, Smul}
+use Rattle.ds_machine.proofs.Words.{Smulw, Some, Stop, Strh, Swap, Swi, ThumbAddress, ThumbBlPrefix, ThumbBlSuffix, ThumbBranch, ThumbBranchIf}
+use Rattle.ds_machine.proofs.Words.{ThumbLoadLiteral, Tick, V4, V5, Word, [], act, act_branch, act_multiply, act_processing, addressed, arith, arm7}
+use Rattle.ds_machine.proofs.Words.{arm9, carried_out, carried_over, concluded, condition, condition_of, cost_of, count_listed, count_ones}
+use Rattle.ds_machine.proofs.Words.{decoded_arm, decoded_thumb, either, enhanced_meaning, enters, equivalent, executed_unless, executed_word, false}
+use Rattle.ds_machine.proofs.Words.{fetched, fetched_half, fetched_word, flag, has_coprocessor, holds, if◌then◌else◌, in_ticks, interrupt_meaning}
+use Rattle.ds_machine.proofs.Words.{is_thumb, line_of, link_meaning, listed_within, meaning, move_of, moved_if, next_fetch, nine_executed}
+use Rattle.ds_machine.proofs.Words.{nine_memory, nine_most, nine_reach, nine_side, offset_value, outcome_of, perform, refl, register, register_moved}
+use Rattle.ds_machine.proofs.Words.{seven_memory, seven_most, seven_reach, seven_side, short_offset_value, side_taken, side_waits, skipped, stop_of}
+use Rattle.ds_machine.proofs.Words.{taken, true, undefined_meaning, waits_of_step, written_by, ℕ, ◌%◌, ◌/◌, ◌<◌, ◌==◌, ◌^◌, ◌∷◌, ◌≡◌, ◌≤◌}
+use Rattle.arm_words.specs.declared.instructions.Instr.TheVariants.{Bx, BlxRegister, Transfer, Multiple, Branch, ThumbImmediate, ThumbData, ThumbHigh}
+use Rattle.arm_words.specs.declared.instructions.Instr.TheVariants.{ThumbRegisterOffset, ThumbPushPop, ThumbMultiple}
+use Rattle.arm_core.specs.Transfers.{half_or_signed_meaning, load_meaning, signed_byte, signed_half, signed_half_meaning, word_or_byte_meaning}
+use Rattle.cp15_tcm.specs.Registers.{Cp15Register, write_answer}
 use Rattle.arm_words.specs.ArmTable.{branch_rows, conditional_arm, coprocessor_rows, data_rows, double_rows, half_multiply_rows, half_product_rows, half_transfer_rows, immediate_status_rows, multiple_rows, multiply_rows, status_register_rows, top4, transfer_rows, unconditional_rows}
 use Rattle.arm_words.specs.Rows.{InstructionRow, agrees, first, or_else}
 use Rattle.arm_words.specs.ThumbTable.{thumb_branch_rows, thumb_literal_rows, thumb_multiple_rows, thumb_offset_rows, thumb_register_rows, thumb_stack_rows, thumb_sum_rows}
-use Rattle.arm_words.specs.declared.instructions.Instr.TheVariants.{ThumbImmediate, ThumbData, ThumbHigh, ThumbRegisterOffset, ThumbPushPop, ThumbMultiple}
 use Rattle.arm_words.specs.declared.operations.HighOp.{HighOp}
 use Rattle.arm_words.specs.declared.operations.HighOp.TheVariants as high_ops
 use Rattle.arm_words.specs.declared.operations.ThumbDataOp.{ThumbDataOp}

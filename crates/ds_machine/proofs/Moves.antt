@@ -1,11 +1,10 @@
-use Rattle.ds_machine.proofs.Words.{ℕ, ◌≡◌, ◌<◌, inl, inr, Bool, true, false, true≢false, List, Option, Some, None, refl, sym, ◌∙◌, ap, subst, ◌||◌}
-use Rattle.ds_machine.proofs.Words.{IsLater, Reschedules, KeyLine, Proc, Tick, Nine, Seven, other_proc, io_due, Goes, IsIo, IsUnchanged}
-use Rattle.ds_machine.proofs.Words.{ReschedulesEach, blocks_processor, ProcessorIoState, IoState, io_of, is_held, ReadLeaves, processor_io_is, io_is}
-use Rattle.ds_machine.proofs.Words.{IsNumbered, AllReschedule, KeyScript, Processor, due_by, due_unless, dues_of, keys_due, processor_due, AreWaiting}
-use Rattle.ds_machine.proofs.Words.{GxState, is_stalled, MachineState, ProcessorState}
-use Rattle.ds_ports.proofs.Later.{in_turn, unchanged_is}
+use Rattle.ds_machine.proofs.Words.{AllReschedule, AreWaiting, Bool, Goes, GxState, IoState, IsIo, IsLater, IsNumbered, IsUnchanged, KeyLine}
+use Rattle.ds_machine.proofs.Words.{KeyScript, List, MachineState, Nine, None, Option, Proc, Processor, ProcessorIoState, ProcessorState, ReadLeaves}
+use Rattle.ds_machine.proofs.Words.{Reschedules, ReschedulesEach, Seven, Some, Tick, all_of_actors, ap, blocks_processor, due_by, due_unless, dues_of}
+use Rattle.ds_machine.proofs.Words.{false, inl, inr, io_due, io_of, is_held, is_stalled, keys_due, other_proc, processor_due, processor_io_is, refl}
+use Rattle.ds_machine.proofs.Words.{subst, sym, true, true≢false, ℕ, ◌<◌, ◌||◌, ◌∙◌, ◌≡◌}
+use Rattle.ds_ports.proofs.Later.{io_is, in_turn, unchanged_is}
 use Rattle.ds_runs.specs.declared.actors.Actor as actor
-use Rattle.ds_runs.proofs.AllActors.{all_of_actors}
 
 -- How due ticks move: each stays, or becomes later than a tick.
 

@@ -1,7 +1,7 @@
-use Rattle.ds_machine.proofs.Words.{ℕ, zero, suc, ◌≡◌, ◌<◌, inl, inr, Bool, true, false, List, [], ◌∷◌, Option, Some, None, refl, ◌∙◌, ap, arith}
-use Rattle.ds_machine.proofs.Words.{◌||◌, or_cases, Access, Fetch, Performed, Read, Write, perform, refused_or, Stop, Width, Arch, V4, V5, Proc, Nine}
-use Rattle.ds_machine.proofs.Words.{Seven, Tick, Meaning, carried_out, concluded, RegisterState, AreNear, is_ram, tcm_of, Tcm, Itcm, Dtcm, Past}
-use Rattle.ds_machine.proofs.Words.{map_read, MapState, NineReach, SevenReach, nine_memory, seven_memory, tcm_read, IoState, is_steady_port}
+use Rattle.ds_machine.proofs.Words.{Access, Arch, AreNear, Bool, Dtcm, Fetch, IoState, Itcm, List, MapState, Meaning, Nine, NineReach, None, Option}
+use Rattle.ds_machine.proofs.Words.{Past, Performed, Proc, Read, RegisterState, Seven, SevenReach, Some, Stop, Tcm, Tick, V4, V5, Width, Write, []}
+use Rattle.ds_machine.proofs.Words.{ap, arith, carried_out, concluded, false, inl, inr, is_ram, is_steady_port, map_read, nine_memory, or_cases}
+use Rattle.ds_machine.proofs.Words.{perform, refl, refused_or, seven_memory, suc, tcm_of, tcm_read, true, zero, ℕ, ◌<◌, ◌||◌, ◌∙◌, ◌∷◌, ◌≡◌}
 use Rattle.ds_machine.proofs.PortReads.{read_io}
 use Rattle.ds_machine.proofs.SteadyPorts.{steady_at}
 use Rattle.ds_machine.proofs.RamAccesses.{ram_read_io, ram_tcm_writes, write_io}

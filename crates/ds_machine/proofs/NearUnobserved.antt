@@ -1,12 +1,10 @@
-use Rattle.ds_machine.proofs.Words.{ℕ, ◌≡◌, inl, inr, true, false, true≢false, List, [], ◌∷◌, Option, Some, None, refl, sym, ◌∙◌, ap, subst, arith}
-use Rattle.ds_machine.proofs.Words.{not, and_right, or_cases, or_from, Access, Fetch, MemoryMachine, Read, Write, Proc, Nine, Seven, Tick, Meaning}
-use Rattle.ds_machine.proofs.Words.{RegisterState, enters, fetched, AreNear, is_ram, operation_meaning, is_decoded, operation_of, Operation}
-use Rattle.ds_machine.proofs.Words.{operation_means, Instr, tcm_of, Tcm, Itcm, Dtcm, Past, NineReach, nine_memory, place_of, Place, Cell, Banks, Port}
-use Rattle.ds_machine.proofs.Words.{Rom, Nothing, port_place, Processor, access_observes, any_observes, is_observed_past, is_observed_place}
-use Rattle.ds_machine.proofs.Words.{observes_by, data_accesses, is_steady_port, SideOf, nine_side, MachineState, line_of, nine_reach, processor_of}
-use Rattle.ds_machine.proofs.Words.{tick_of, DataStaysNear}
-use Rattle.arm_ops.specs.Meanings.{IsNearAccess}
-use Rattle.ds_machine.specs.Touching.{DataIsNear}
+use Rattle.ds_machine.proofs.Words.{Access, AreNear, Banks, Cell, DataIsNear, DataStaysNear, Dtcm, Fetch, Instr, IsNearAccess, Itcm, List}
+use Rattle.ds_machine.proofs.Words.{MachineState, Meaning, MemoryMachine, Nine, NineReach, None, Nothing, Operation, Option, Past, Place, Port, Proc}
+use Rattle.ds_machine.proofs.Words.{Processor, Read, RegisterState, Rom, Seven, SideOf, Some, Tcm, Tick, Write, [], access_observes, and_right}
+use Rattle.ds_machine.proofs.Words.{any_observes, ap, arith, data_accesses, enters, false, fetched, inl, inr, is_decoded, is_observed_past}
+use Rattle.ds_machine.proofs.Words.{is_observed_place, is_ram, is_steady_port, line_of, nine_memory, nine_reach, nine_side, not, observes_by}
+use Rattle.ds_machine.proofs.Words.{operation_meaning, operation_means, operation_of, or_cases, or_from, place_of, port_place, processor_of, refl}
+use Rattle.ds_machine.proofs.Words.{subst, sym, tcm_of, tick_of, true, true≢false, ℕ, ◌∙◌, ◌∷◌, ◌≡◌}
 use Rattle.ds_machine.proofs.NearAccesses.{is_near_at}
 use Rattle.ds_machine.proofs.SteadyPorts.{IsSteadyAt, steady_at}
 use Rattle.ds_machine.proofs.RamAccesses.{is_cells, ram_bounds, ram_cells}

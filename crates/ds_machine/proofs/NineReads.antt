@@ -1,9 +1,4 @@
-use Rattle.std.specs.Prelude.{ℕ}
-use Rattle.ds_base.specs.declared.memories.Width.{Width}
-use Rattle.ds_base.specs.declared.processors.Proc.TheVariants.{Nine}
-use Rattle.cp15_tcm.specs.declared.answers.Tcm.{Tcm}
-use Rattle.ds_map.specs.Accesses.{map_fetched, map_value}
-use Rattle.ds_map.specs.Views.{NineReach, tcm_number}
+use Rattle.ds_machine.proofs.Words.{Nine, NineReach, Tcm, Width, map_fetched, map_value, tcm_number, ℕ}
 
 -- What ARM9 reads and fetches at an address, by the tightly coupled memory that answers there.
 

@@ -1,17 +1,15 @@
-use Rattle.ds_machine.proofs.Words.{ℕ, ◌≡◌, ◌<◌, ◌-◌, ◌/◌, nat_le, if◌then◌else◌, Bool, true, false, true≢false, List, [], ◌∷◌, Option, Some, None}
-use Rattle.ds_machine.proofs.Words.{refl, sym, ◌∙◌, ap, subst, arith, ◌&&◌, ◌||◌, IsSome, not-true, or_from, or_parts, Access, Fetch, Read, Write, V5}
-use Rattle.ds_machine.proofs.Words.{Nine, Tick, Instr, AreOfData, meaning, RegisterState, Reach, access_made, access_meaning, accesses_by, is_other}
-use Rattle.ds_machine.proofs.Words.{loads, operation_of, DataAccess, Operation, Cp15State, in_dtcm, in_itcm, tcm_of, Itcm, Dtcm, Past, NineReach}
-use Rattle.ds_machine.proofs.Words.{BootRom, Cells, Content, Empty, Ports, Region, place_at, place_by, place_of, regions_of_nine, Place, from_same}
-use Rattle.ds_machine.proofs.Words.{upto_same, actor_of, due_at, any_observes, is_observed_past, is_observed_place, AllReachPrivate, data_accesses}
-use Rattle.ds_machine.proofs.Words.{due_by, dues_of, SideOf, nine_side, MachineState, nine_reach, tick_of, GoesByWords, IsFootprint, instr_at}
-use Rattle.std.proofs.Common.{not}
-use Rattle.ds_places.specs.AddressTables.{Video}
+use Rattle.ds_machine.proofs.Words.{Access, AllReachPrivate, Bool, Cp15State, DataAccess, Dtcm, Fetch, GoesByWords, Instr, IsFootprint, IsSome, Itcm}
+use Rattle.ds_machine.proofs.Words.{List, MachineState, Nine, NineReach, None, Operation, Option, Past, Place, Reach, Read, RegisterState, SideOf}
+use Rattle.ds_machine.proofs.Words.{Some, Tick, V5, Write, [], access_made, access_meaning, accesses_by, actor_of, any_observes, ap, arith}
+use Rattle.ds_machine.proofs.Words.{data_accesses, data_unobserved, due_at, due_by, due_of_rank, dues_of, false, from_same, if◌then◌else◌, in_dtcm}
+use Rattle.ds_machine.proofs.Words.{in_itcm, instr_at, is_observed_past, is_observed_place, is_other, loads, low_rank, made_observed, meaning, nat_le}
+use Rattle.ds_machine.proofs.Words.{nine_reach, nine_side, not, not-true, operation_of, or_from, or_parts, place_of, refl, regions_of_nine, subst}
+use Rattle.ds_machine.proofs.Words.{sym, tcm_of, tick_of, true, true≢false, upto_same, ℕ, ◌&&◌, ◌-◌, ◌/◌, ◌<◌, ◌||◌, ◌∙◌, ◌∷◌, ◌≡◌}
+use Rattle.arm_core.specs.FootprintLaws.{AreOfData}
+use Rattle.ds_places.specs.AddressTables.{BootRom, Cells, Content, Empty, Ports, Region, place_at, place_by, Video}
 use Rattle.ds_map.proofs.ObservedPorts.{observed_same}
 use Rattle.ds_runs.specs.declared.actors.Actor as actor
-use Rattle.ds_machine.specs.Observing.{data_unobserved, made_observed}
 use Rattle.ds_machine.proofs.DecodedStays.{IsOne, accesses_known, one_by, same_word}
-use Rattle.ds_machine.proofs.DueTicks.{due_of_rank, low_rank}
 use Rattle.ds_machine.proofs.PlacesByWords.{are_rows, dtcm_same, itcm_same, row_facts, rows_of_nine}
 use Rattle.ds_machine.proofs.PrivatePlaces.{private_itself}
 use Rattle.ds_machine.proofs.PrivateTests.{data_passed, data_passes}

@@ -1,8 +1,7 @@
-use Rattle.ds_machine.proofs.Words.{ℕ, ◌≡◌, false, true, Option, Some, None, refl, sym, ◌∙◌, subst, Width, Proc, Nine, Seven, Tick, RegisterState}
-use Rattle.ds_machine.proofs.Words.{Instr, arm7, arm9, move_of, Moved, tcm_of, Tcm, Itcm, Dtcm, Past, NineReach, SevenReach, nine_memory}
-use Rattle.ds_machine.proofs.Words.{seven_memory, tcm_read, tcm_written, map_write_goes, Goes, IsProcessorIo, HasOnlyLaterEvents, IoState, io_of}
-use Rattle.ds_machine.proofs.Words.{nine_side, seven_side, nine_executed, MachineState, line_of, nine_reach, outcome_of, seven_reach}
-use Rattle.ds_map.proofs.Later.{map_read_goes}
+use Rattle.ds_machine.proofs.Words.{Dtcm, Goes, HasOnlyLaterEvents, Instr, IoState, IsProcessorIo, Itcm, MachineState, Moved, Nine, NineReach, None}
+use Rattle.ds_machine.proofs.Words.{Option, Past, Proc, RegisterState, Seven, SevenReach, Some, Tcm, Tick, Width, arm7, arm9, false, io_of, line_of}
+use Rattle.ds_machine.proofs.Words.{map_read_goes, map_write_goes, move_of, nine_executed, nine_memory, nine_reach, nine_side, outcome_of, refl}
+use Rattle.ds_machine.proofs.Words.{seven_memory, seven_reach, seven_side, subst, sym, tcm_of, tcm_read, tcm_written, true, ℕ, ◌∙◌, ◌≡◌}
 use Rattle.ds_ports.proofs.Later.{goes_nowhere, goes_on}
 use Rattle.ds_machine.proofs.Keeps.{Follows, taken_follows, word_follows}
 

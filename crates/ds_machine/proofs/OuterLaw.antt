@@ -1,23 +1,20 @@
-use Rattle.ds_machine.proofs.Words.{◌&&◌, ◌||◌, not, bit_at, bit_not, w32, ℕ, ◌≡◌, ◌≢◌, ◌<◌, ◌⊎◌, inl, inr, Bool, true, false, List, [], Option, Some}
-use Rattle.ds_machine.proofs.Words.{None, bit_and, bit_or, refl, sym, ◌∙◌, ap, subst, arith, bit_at_and, bit_at_or, same_from_bits, and_parts}
-use Rattle.ds_machine.proofs.Words.{not-true, equal, true_or_false, LeftOut, Proc, Nine, Seven, Tick, card_due_for, IsSharedSo, NineReach, SevenReach}
-use Rattle.ds_machine.proofs.Words.{is_quiet, IsTold, ipc_bits, IoState, io_of, is_settled, level_told, release_by, release_of, settled}
-use Rattle.ds_machine.proofs.Words.{blocks_processor, processor_io_triggered, actor_of, MovesOn, IsLeast, MachineStep, Makes, Stops, due_at}
-use Rattle.ds_machine.proofs.Words.{KeyScript, Video, Timer, Divider, SquareRoot, Geometry, Card, Dma, Processor, DmaState, awaits_geometry}
-use Rattle.ds_machine.proofs.Words.{channel_due, dma_due, actors_differ, same_makes, not_both, IrqState, irq_levelled, level, timer_at, timer_due}
-use Rattle.ds_machine.proofs.Words.{GxState, gx_finished, gx_level, is_half_empty, is_stalled, scan_due_tick, acting_dues, NineOwn, nine_own_of}
-use Rattle.ds_machine.proofs.Words.{with_nine_own, with_seven_part, step_with, enters, IsBelowFence, hears_nobody, rank_of, IsHarmless, RunsAhead}
-use Rattle.ds_machine.proofs.Words.{Fences, Shown, awake, due_by, due_unless, dues_of, keys_due, reference, reference_step, step_by, HasSoundParts}
-use Rattle.ds_machine.proofs.Words.{IsSound, MachineState, ProcessorState, SevenState, ended, goes_on, is_blocked, is_halted, line_of}
-use Rattle.ds_machine.proofs.Words.{machine_settled, nine_reach, processor_of, seven_reach, tick_of, wakes, woken_one, fence_due}
-use Rattle.std.specs.Prelude.{◌==◌, if◌then◌else◌}
+use Rattle.ds_machine.proofs.Words.{Bool, Card, Divider, Dma, DmaState, Fences, Geometry, GxState, HasOwnPart, HasSoundParts, IoState, IrqState}
+use Rattle.ds_machine.proofs.Words.{IsBelowFence, IsHarmless, IsLeast, IsSharedSo, IsSound, IsTold, KeyScript, LeftOut, List, MachineState}
+use Rattle.ds_machine.proofs.Words.{MachineStep, Makes, MayRunAhead, MovesOn, Nine, NineOwn, NineReach, None, Option, Proc, Processor, ProcessorState}
+use Rattle.ds_machine.proofs.Words.{RunsAhead, Seven, SevenReach, SevenState, Shown, Some, SquareRoot, Stops, Tick, Timer, Video, [], acting_dues}
+use Rattle.ds_machine.proofs.Words.{actor_of, actors_differ, ahead_from_own, and_parts, ap, arith, awaits_geometry, awake, bit_and, bit_at}
+use Rattle.ds_machine.proofs.Words.{bit_at_and, bit_at_or, bit_not, bit_or, blocks_processor, card_due_for, channel_due, dma_due, due_at, due_by}
+use Rattle.ds_machine.proofs.Words.{due_of_least, due_of_rank, due_unless, dues_of, ended, enters, equal, false, goes_on, gx_finished, gx_level}
+use Rattle.ds_machine.proofs.Words.{hears_nobody, if◌then◌else◌, inl, inr, io_of, ipc_bits, irq_levelled, is_blocked, is_half_empty, is_halted}
+use Rattle.ds_machine.proofs.Words.{is_quiet, is_settled, is_stalled, keys_due, level, level_told, line_of, low_rank, machine_settled}
+use Rattle.ds_machine.proofs.Words.{moves_of_actors, nine_own_of, nine_reach, not, not-true, not_both, processor_io_triggered, processor_of, rank_of}
+use Rattle.ds_machine.proofs.Words.{reference, reference_step, refl, release_by, release_of, same_from_bits, same_makes, scan_due_tick, settled}
+use Rattle.ds_machine.proofs.Words.{seven_reach, step_by, step_with, subst, sym, tick_of, timer_at, timer_due, true, true_or_false, w32, wakes}
+use Rattle.ds_machine.proofs.Words.{with_nine_own, with_seven_part, woken_one, ℕ, ◌&&◌, ◌<◌, ◌==◌, ◌||◌, ◌∙◌, ◌≡◌, ◌≢◌, ◌⊎◌}
+use Rattle.ds_machine.specs.FenceTicks.{fence_due}
 use Rattle.ds_dma.specs.declared.controls.Cause.TheVariants as causes
-use Rattle.ds_runs.specs.Ahead.{HasOwnPart, MayRunAhead}
 use Rattle.ds_runs.specs.declared.actors.Actor as actor
-use Rattle.ds_runs.proofs.Ahead.{ahead_from_own}
-use Rattle.ds_runs.proofs.AllActors.{moves_of_actors}
 use Rattle.ds_machine.proofs.ActingDues.{acting_low, acting_of_rank, acts_then, loud_same}
-use Rattle.ds_machine.proofs.DueTicks.{due_of_least, due_of_rank, low_rank}
 use Rattle.ds_machine.proofs.FenceFirsts.{fences_as, fences_there, there_fences}
 use Rattle.ds_machine.proofs.InnerLaw.{HasOwnOf, IsCalm, MovesAlone, after_nine, after_seven, calm, harmless_by_part, inner_nine, inner_seven, nine_fits, nine_moves, seven_moves}
 use Rattle.ds_machine.proofs.Apart.{leave_seven, none_of_seven}

@@ -1,11 +1,10 @@
-use Rattle.ds_machine.proofs.Words.{ℕ, ◌≡◌, ◌≢◌, List, [], Option, Some, None, refl, sym, ◌∙◌, ap, subst, LeftOut, Proc, Nine, Seven, Tick, Cost}
-use Rattle.ds_machine.proofs.Words.{Halted, Left, card_due, card_due_for, card_starter, other_proc, next_unit, IsTold, IoState, io_of}
-use Rattle.ds_machine.proofs.Words.{ProcessorIoState, MachineStep, Makes, KeyScript, Video, Timer, Geometry, Card, Dma, Processor, same_makes}
-use Rattle.ds_machine.proofs.Words.{IrqState, nine_own_of, with_seven_part, machine_graft, step_with, unchanged_by, channel_step, Fences, Shown}
-use Rattle.ds_machine.proofs.Words.{after_event, step_by, MachineState, left_by, gone_by}
+use Rattle.ds_machine.proofs.Words.{Card, Cost, Dma, Fences, Geometry, Halted, IoState, IrqState, IsTold, KeyScript, Left, LeftOut, List}
+use Rattle.ds_machine.proofs.Words.{MachineState, MachineStep, Makes, Nine, None, Option, Proc, Processor, ProcessorIoState, Seven, Shown, Some, Tick}
+use Rattle.ds_machine.proofs.Words.{Timer, Video, [], after_event, ap, card_due, card_due_for, card_starter, channel_step, gone_by, io_of, left_by}
+use Rattle.ds_machine.proofs.Words.{machine_graft, next_unit, nine_own_of, other_proc, refl, same_makes, step_by, step_with, subst, sym, unchanged_by}
+use Rattle.ds_machine.proofs.Words.{unchanged_same, with_seven_part, ℕ, ◌∙◌, ◌≡◌, ◌≢◌}
 use Rattle.arm_core.specs.declared.outcomes.Stepped as arm
 use Rattle.ds_card.proofs.Schedules.{event_leaves_other}
-use Rattle.ds_ports.proofs.Later.{unchanged_same}
 use Rattle.ds_runs.specs.declared.actors.Actor as actor
 use Rattle.ds_machine.proofs.Apart.{leave_seven, none_of_seven}
 use Rattle.ds_machine.proofs.ChannelEvents.{channel_made, machine_after_unit, unit_card, unit_gx, unit_released, unit_video}

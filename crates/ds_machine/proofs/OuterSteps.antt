@@ -1,6 +1,6 @@
-use Rattle.ds_machine.proofs.Words.{◌≡◌, Bool, true, false, if◌then◌else◌, refl, sym, ◌∙◌, ap, Proc, Nine, Seven, Tick, IoState, io_of, settled}
-use Rattle.ds_machine.proofs.Words.{ProcessorIoState, with_seven_part, MachineState, SevenState, ended, goes_on, is_halted, machine_settled, wakes}
-use Rattle.ds_machine.proofs.Words.{woken_one}
+use Rattle.ds_machine.proofs.Words.{Bool, IoState, MachineState, Nine, Proc, ProcessorIoState, Seven, SevenState, Tick, ap, ended, false, goes_on}
+use Rattle.ds_machine.proofs.Words.{if◌then◌else◌, io_of, is_halted, machine_settled, refl, settled, sym, true, wakes, with_seven_part, woken_one}
+use Rattle.ds_machine.proofs.Words.{◌∙◌, ◌≡◌}
 use Rattle.ds_machine.proofs.Wakes.{settle_leaves}
 
 -- A step of an actor that doesn't reach a processor's own part comes to the same with another own part, also with what follows it, where the processor isn't halted.

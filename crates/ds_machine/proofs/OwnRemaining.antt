@@ -1,13 +1,11 @@
-use Rattle.ds_machine.proofs.Words.{ℕ, ◌≡◌, ◌<◌, inl, inr, Bool, true, false, true≢false, List, [], Option, Some, None, refl, sym, ◌∙◌, ap, subst}
-use Rattle.ds_machine.proofs.Words.{arith, IsLater, Proc, Nine, Seven, Tick, Cost, Halted, Left, HasOnlyLaterEvents, io_of, still_later, actor_of}
-use Rattle.ds_machine.proofs.Words.{IsLeast, Makes, due_at, Processor, same_makes, not_both, acting_dues, CatchesUpIf, observes_by, rank_of}
-use Rattle.ds_machine.proofs.Words.{BelongsToTurn, own_remaining, ticks_left, Shown, awake, processor_due, reference_step, step_by, HasSoundParts}
-use Rattle.ds_machine.proofs.Words.{MachineState, ended, gone_by, machine_concluded, processor_of}
+use Rattle.ds_machine.proofs.Words.{BelongsToTurn, Bool, CatchesUpIf, Cost, Halted, HasOnlyLaterEvents, HasSoundParts, IsLater, IsLeast, Left, List}
+use Rattle.ds_machine.proofs.Words.{MachineState, Makes, Nine, None, Option, Proc, Processor, Seven, Shown, Some, Tick, TurnStepsFall, []}
+use Rattle.ds_machine.proofs.Words.{acting_dues, actor_of, ap, arith, awake, due_at, ended, false, gone_by, inl, inr, io_of, machine_concluded}
+use Rattle.ds_machine.proofs.Words.{not_both, observes_by, own_remaining, own_tick, processor_due, processor_of, rank_of, reference_step, refl}
+use Rattle.ds_machine.proofs.Words.{same_makes, step_by, still_later, subst, sym, ticks_left, true, true≢false, ℕ, ◌<◌, ◌∙◌, ◌≡◌}
 use Rattle.arm_core.specs.declared.outcomes.Stepped as arm
-use Rattle.ds_machine.specs.TurnLaws.{TurnStepsFall}
 use Rattle.ds_machine.proofs.ActingDues.{acting_processor}
 use Rattle.ds_machine.proofs.CatchingUp.{caught_so}
-use Rattle.ds_machine.proofs.DueTicks.{own_tick}
 use Rattle.ds_machine.proofs.MachineSchedule.{awake_makes}
 use Rattle.ds_machine.proofs.ProcessorSteps.{Operation, came_by, concludes, costs_some, gone_sound, processor_io_later, reached_by}
 use Rattle.ds_machine.proofs.PrivateUnobserved.{rank_unobserved}

@@ -1,18 +1,16 @@
-use Rattle.ds_machine.proofs.Words.{ℕ, ◌≡◌, Bool, true, false, if◌then◌else◌, List, [], Option, Some, None, refl, sym, ◌∙◌, ap, Access, Fetch, Read}
-use Rattle.ds_machine.proofs.Words.{Write, LeftOut, Stop, Proc, Nine, Seven, Tick, arm7, Outcome, fetched, Cost, Halted, Left, card_after_event}
-use Rattle.ds_machine.proofs.Words.{card_due, card_starter, MapState, next_unit, unit_moved, unit_refusal, IsSharedSo, is_beyond_seven}
-use Rattle.ds_machine.proofs.Words.{is_shown_to_nine, SevenReach, seven_memory, io_due, IoState, card_done_at, level_told, release_kept, settled}
-use Rattle.ds_machine.proofs.Words.{starter_told, processor_io_triggered, MachineStep, Makes, KeyScript, Video, Timer, Geometry, Card, Dma, Processor}
-use Rattle.ds_machine.proofs.Words.{same_makes, is_half_empty, mixed_length, mixed_same, mixed_twice, mixed, NineOwn, nine_own_of, with_nine_own}
-use Rattle.ds_machine.proofs.Words.{channel_step, moved_by, one_event, Shown, step_by, seven_wait, wait_at, seven_side, side_taken, side_waits}
-use Rattle.ds_machine.proofs.Words.{MachineState, step_with, ended, goes_on, is_halted, line_of, machine_concluded, machine_settled, map_of}
-use Rattle.ds_machine.proofs.Words.{seven_reach, tick_of, wakes, with_io, with_map, with_seven, woken, woken_one}
+use Rattle.ds_machine.proofs.Words.{Access, Bool, Card, Cost, Dma, Fetch, Geometry, Halted, IoState, IsOutside, IsSharedSo, KeyScript, Left, LeftOut}
+use Rattle.ds_machine.proofs.Words.{List, MachineState, MachineStep, Makes, MapState, Nine, NineOwn, None, Option, Outcome, Proc, Processor, Read}
+use Rattle.ds_machine.proofs.Words.{Seven, SevenReach, SharedPart, Shown, Some, Stop, Tick, Timer, Video, Write, [], ap, arm7, card_after_event}
+use Rattle.ds_machine.proofs.Words.{card_done_at, card_due, card_starter, channel_step, ended, false, fetched, goes_on, if◌then◌else◌, io_due}
+use Rattle.ds_machine.proofs.Words.{is_beyond_seven, is_half_empty, is_halted, is_shown_to_nine, level_told, line_of, machine_concluded}
+use Rattle.ds_machine.proofs.Words.{machine_settled, map_of, map_put, mixed, mixed_length, mixed_same, mixed_twice, moved_by, next_unit, nine_own_of}
+use Rattle.ds_machine.proofs.Words.{one_event, processor_io_triggered, refl, release_kept, same_makes, settled, seven_memory, seven_reach, seven_side}
+use Rattle.ds_machine.proofs.Words.{seven_wait, shares_put, side_taken, side_waits, starter_told, step_by, step_with, sym, tick_of, true, unit_moved}
+use Rattle.ds_machine.proofs.Words.{unit_refusal, wait_at, wakes, with_io, with_map, with_nine_own, with_seven, woken, woken_one, ℕ, ◌∙◌, ◌≡◌}
 use Rattle.arm_core.specs.declared.outcomes.Stepped as arm
 use Rattle.ds_dma.specs.declared.controls.Cause.TheVariants as causes
-use Rattle.ds_map.specs.ShareLaws.{SharedPart, map_put, shares_put}
 use Rattle.ds_map.proofs.SevenShares as seven_map
 use Rattle.ds_runs.specs.declared.actors.Actor as actor
-use Rattle.ds_machine.specs.Apart.{IsOutside}
 use Rattle.ds_machine.proofs.Commutes.{Commutes, step_waits_commute, taken_commutes, word_commutes}
 use Rattle.ds_machine.proofs.Ticks.{ticked, ticked_so}
 use Rattle.ds_machine.proofs.OuterSteps.{not_woken, settled_halted}

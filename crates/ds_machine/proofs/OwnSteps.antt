@@ -1,9 +1,7 @@
-use Rattle.ds_machine.proofs.Words.{ℕ, ◌≡◌, Bool, true, false, if◌then◌else◌, Option, Some, None, refl, sym, ◌∙◌, ap, Width, V4, V5, Instr, Outcome}
-use Rattle.ds_machine.proofs.Words.{RegisterState, is_thumb, enters, executed_word, fetched, fetched_half, fetched_word, arm7, arm9, move_of, Moved}
-use Rattle.ds_machine.proofs.Words.{Cp15State, tcm_of, Tcm, Itcm, Dtcm, Past, NineReach, SevenReach, nine_memory, seven_memory, tcm_read, tcm_written}
-use Rattle.ds_machine.proofs.Words.{nine_side, seven_side, side_taken, nine_executed}
-use Rattle.arm7_exec.specs.Arm7.{step7_of}
-use Rattle.arm9_exec.specs.Arm9.{executed_or_moved, step9_of}
+use Rattle.ds_machine.proofs.Words.{Bool, Cp15State, Dtcm, Instr, Itcm, Moved, NineReach, None, Option, Outcome, Past, RegisterState, SevenReach}
+use Rattle.ds_machine.proofs.Words.{Some, Tcm, V4, V5, Width, ap, arm7, arm9, enters, executed_or_moved, executed_word, false, fetched, fetched_half}
+use Rattle.ds_machine.proofs.Words.{fetched_word, if◌then◌else◌, is_thumb, move_of, nine_executed, nine_memory, nine_side, refl, seven_memory}
+use Rattle.ds_machine.proofs.Words.{seven_side, side_taken, step7_of, step9_of, sym, tcm_of, tcm_read, tcm_written, true, ℕ, ◌∙◌, ◌≡◌}
 use Rattle.ds_machine.specs.OwnSteps.{IsStep7, IsStep9, with_cp15}
 use Rattle.ds_machine.proofs.Keeps.{Follows, word_follows}
 use Rattle.ds_machine.proofs.Taken.{taken_entered, taken_executed}

@@ -1,5 +1,5 @@
-use Rattle.ds_machine.proofs.Words.{◌≤◌, ◌^◌, arith, Proc, Tick, actor_of, IsRunning, last_limit, CatchesUpFor, observes_by, rank_of, MachineState}
-use Rattle.ds_machine.proofs.Words.{HasBothStatuses, MayAct, MayStep}
+use Rattle.ds_machine.proofs.Words.{CatchesUpFor, HasBothStatuses, IsRunning, MachineState, MayAct, MayStep, Proc, Tick, actor_of, arith, last_limit}
+use Rattle.ds_machine.proofs.Words.{observes_by, rank_of, ◌^◌, ◌≤◌}
 use Rattle.ds_machine.specs.declared.answers.Done as answer
 use Rattle.ds_machine.proofs.ActingSteps.{acting_may_step}
 use Rattle.ds_machine.proofs.CatchingUp.{caught_for, caught_statuses}

@@ -1,15 +1,11 @@
-use Rattle.ds_machine.proofs.Words.{ℕ, ◌≡◌, ◌≤◌, ◌+◌, ◌-◌, ◌*◌, ◌/◌, ◌%◌, ◌^◌, ◌==◌, ◌⊎◌, inl, inr, min, nat_le, nat_lt, if◌then◌else◌, Bool, true}
-use Rattle.ds_machine.proofs.Words.{false, List, [], ◌∷◌, refl, sym, ◌∙◌, ap, arith, ◌&&◌, ◌||◌, not-true, lt_cases, bit, bits, memory_size, Shared}
-use Rattle.ds_machine.proofs.Words.{Palette, Oam, Nine, Cp15State, in_dtcm, in_itcm, tcm_of, Itcm, Dtcm, Past, BootRom, Cells, Content, Empty, Ports}
-use Rattle.ds_machine.proofs.Words.{Region, place_at, place_by, place_of, regions_of_nine, shared_for_nine, Place, from_same, past_row, upto_same}
-use Rattle.ds_machine.proofs.Words.{MapState, is_private_place, NineReach, SevenReach, is_private_tcm, is_private_to_seven, nine_side, seven_side}
-use Rattle.ds_machine.proofs.Words.{GoesByWords, MachineState, is_private_to, nine_reach, tick_of}
-use Rattle.std.proofs.Common.{not}
-use Rattle.ds_base.specs.Memories.{space_size}
+use Rattle.ds_machine.proofs.Words.{Bool, Cp15State, Dtcm, GoesByWords, IsMainPast, Itcm, List, MachineState, MapState, Nine, NineReach, Oam, Palette}
+use Rattle.ds_machine.proofs.Words.{Past, Place, SevenReach, Shared, Tcm, [], answers, ap, arith, bit, bits, covered, dtcm_base, false, from_same}
+use Rattle.ds_machine.proofs.Words.{if◌then◌else◌, in_dtcm, in_itcm, inl, inr, is_private_place, is_private_tcm, is_private_to, is_private_to_seven}
+use Rattle.ds_machine.proofs.Words.{lt_cases, memory_size, min, nat_le, nat_lt, nine_reach, nine_side, not, not-true, past_row, place_of, refl}
+use Rattle.ds_machine.proofs.Words.{regions_of_nine, seven_side, shared_for_nine, space_size, sym, tcm_of, tick_of, true, upto_same, ℕ, ◌%◌, ◌&&◌}
+use Rattle.ds_machine.proofs.Words.{◌*◌, ◌+◌, ◌-◌, ◌/◌, ◌==◌, ◌^◌, ◌||◌, ◌∙◌, ◌∷◌, ◌≡◌, ◌≤◌, ◌⊎◌}
+use Rattle.ds_places.specs.AddressTables.{BootRom, Cells, Content, Empty, Ports, Region, place_at, place_by, Video, is_of_region, main_region}
 use Rattle.ds_base.specs.declared.memories.Space.TheVariants.{Arm7}
-use Rattle.cp15_tcm.specs.TightlyCoupled.{answers, covered, dtcm_base, IsMainPast}
-use Rattle.cp15_tcm.specs.declared.answers.Tcm.{Tcm}
-use Rattle.ds_places.specs.AddressTables.{Video, is_of_region, main_region}
 use Rattle.vram_banks.specs.BankMap.{same_space}
 use Rattle.vram_banks.proofs.Allotted.{not_met}
 

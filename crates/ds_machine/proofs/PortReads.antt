@@ -1,9 +1,7 @@
-use Rattle.ds_machine.proofs.Words.{ℕ, ◌≡◌, ◌<◌, ◌≤◌, ◌+◌, ◌-◌, Bool, true, false, true≢false, nat_le, nat_lt, Option, Some, None, refl, sym, arith}
-use Rattle.ds_machine.proofs.Words.{aligned_down, width_bytes, Width, Byte, Half, Word, Proc, Nine, Seven, Tick, port_place, map_read, MapState}
-use Rattle.ds_machine.proofs.Words.{IoState, port_read, slot_read, whole_if, whole_in, slot_of, meaning_of, Register, CardData, Slot}
-use Rattle.std.proofs.Common.{◌&&◌}
-use Rattle.ds_ports.specs.RegisterMap.{PortRow, row_bytes}
-use Rattle.ds_ports.specs.declared.registers.Register.TheVariants.{Ipcfiforecv}
+use Rattle.ds_machine.proofs.Words.{Bool, Byte, CardData, Half, IoState, Ipcfiforecv, MapState, Nine, None, Option, PortRow, Proc, Register, Seven}
+use Rattle.ds_machine.proofs.Words.{Slot, Some, Tick, Width, Word, aligned_down, arith, false, map_read, meaning_of, nat_le, nat_lt, port_place, refl}
+use Rattle.ds_machine.proofs.Words.{row_bytes, slot_of, sym, true, true≢false, width_bytes, ℕ, ◌&&◌, ◌+◌, ◌-◌, ◌<◌, ◌≡◌, ◌≤◌}
+use Rattle.ds_ports.specs.Ports.{port_read, slot_read, whole_if, whole_in}
 use Rattle.ds_ports.proofs.Covered.{OfKind, slot_is}
 
 -- A read of a port from 4000000h to 40FFFFFh leaves all units as they are: IPCFIFORECV and the card's data, of which a read takes a

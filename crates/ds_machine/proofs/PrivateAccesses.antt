@@ -1,7 +1,7 @@
-use Rattle.ds_machine.proofs.Words.{ℕ, ◌≡◌, ◌<◌, ◌+◌, ◌*◌, Bool, true, false, List, [], ◌∷◌, Option, None, refl, sym, ◌∙◌, ap, Access, Fetch}
-use Rattle.ds_machine.proofs.Words.{MemoryMachine, Performed, Read, Write, perform, refused_or, with_value, Stop, Width, Arch, ticks_per_clock, Proc}
-use Rattle.ds_machine.proofs.Words.{Meaning, Outcome, carried_out, concluded, cost_of, RegisterState, Cost, some_cost, unless_refused, waits_of}
-use Rattle.ds_machine.proofs.Words.{AllReachPrivate, ReachesPrivate, SideOf}
+use Rattle.ds_machine.proofs.Words.{Access, AllReachPrivate, Arch, Bool, Cost, Fetch, List, Meaning, MemoryMachine, None, Option, Outcome, Performed}
+use Rattle.ds_machine.proofs.Words.{Proc, ReachesPrivate, Read, RegisterState, SideOf, Stop, Width, Write, [], ap, carried_out, concluded, cost_of}
+use Rattle.ds_machine.proofs.Words.{false, perform, refl, refused_or, some_cost, sym, ticks_per_clock, true, unless_refused, waits_of, with_value, ℕ}
+use Rattle.ds_machine.proofs.Words.{◌*◌, ◌+◌, ◌<◌, ◌∙◌, ◌∷◌, ◌≡◌}
 use Rattle.ds_machine.proofs.Ticks.{some_ticks, ticked}
 
 -- Private accesses change a processor's own part alone, depend on it alone, and aren't refused. What a processor reaches is a part of its own, put into the rest.

@@ -1,10 +1,9 @@
-use Rattle.ds_machine.proofs.Words.{ℕ, zero, suc, ◌≡◌, ◌<◌, ◌≤◌, ◌+◌, ◌-◌, ◌%◌, ◌^◌, ◌⊎◌, nat_le, Bool, true, false, true≢false, if◌then◌else◌, List}
-use Rattle.ds_machine.proofs.Words.{[], ◌∷◌, None, Contains, inl, inr, refl, sym, ◌∙◌, ap, subst, arith, Contains-append_left, Contains-append_right}
-use Rattle.ds_machine.proofs.Words.{memory_size, aligned_down, width_bytes, with_number, Own7, Width, Byte, Half, Word, Seven, Tick, span, place_of}
-use Rattle.ds_machine.proofs.Words.{Place, Cell, Rom, Nothing, in_row, past_row, after_read_at, fetched_at, map_fetched, map_read, map_refusal}
-use Rattle.ds_machine.proofs.Words.{map_value, map_written, refusal_at, value_at, written_at, MapState, wait_at, is_private_to_seven}
-use Rattle.std.proofs.Common.{◌&&◌}
-use Rattle.std.proofs.lemmas.List.Elements.{Contains-push}
+use Rattle.ds_machine.proofs.Words.{Bool, Byte, Cell, Contains, Half, List, MapState, None, Nothing, Own7, Place, Rom, Seven, Tick, Width, Word, []}
+use Rattle.ds_machine.proofs.Words.{after_read_at, aligned_down, ap, arith, false, fetched_at, if◌then◌else◌, in_row, inl, inr, is_private_to_seven}
+use Rattle.ds_machine.proofs.Words.{map_fetched, map_read, map_refusal, map_value, map_written, memory_size, nat_le, past_row, place_of, refl}
+use Rattle.ds_machine.proofs.Words.{refusal_at, span, subst, suc, sym, true, true≢false, value_at, wait_at, width_bytes, with_number, written_at}
+use Rattle.ds_machine.proofs.Words.{zero, ℕ, ◌%◌, ◌&&◌, ◌+◌, ◌-◌, ◌<◌, ◌^◌, ◌∙◌, ◌∷◌, ◌≡◌, ◌≤◌, ◌⊎◌}
+use Rattle.std.proofs.lemmas.List.Elements.{Contains-append_left, Contains-append_right, Contains-push}
 use Rattle.ds_places.specs.Waits.{wait_of}
 
 -- An access's own address is private where all of its bytes are. ARM7's private places: the same stands there whatever WRAMCNT says, and an access of it reaches its own work RAM alone.

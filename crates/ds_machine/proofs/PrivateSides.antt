@@ -1,14 +1,13 @@
-use Rattle.ds_machine.proofs.Words.{ℕ, ◌≡◌, ◌<◌, ◌≤◌, ◌^◌, Bool, true, false, true≢false, if◌then◌else◌, List, [], Option, Some, None, Contains, inl}
-use Rattle.ds_machine.proofs.Words.{inr, refl, sym, ◌∙◌, ap, arith, not, none-some, same_Some, low_or_high, Access, Fetch, Read, Write, aligned_down}
-use Rattle.ds_machine.proofs.Words.{width_bytes, with_number, Width, V5, Nine, Instr, Coprocessor, holds, Outcome, cost_of, span, skipped}
-use Rattle.ds_machine.proofs.Words.{RegisterState, has_coprocessor, Cost, some_cost, arm7, arm9, MoveOutcome, move_of, moved_if, register_moved}
-use Rattle.ds_machine.proofs.Words.{Moved, Cp15State, tcm_of, Tcm, Itcm, Dtcm, Past, NineReach, SevenReach, nine_memory, seven_memory, tcm_fetched}
-use Rattle.ds_machine.proofs.Words.{tcm_read, tcm_refusal, tcm_value, tcm_written, place_of, IoState, MapState, IsSharedSo, is_private_place}
-use Rattle.ds_machine.proofs.Words.{nine_wait, seven_wait, AllReachPrivate, ReachesPrivate, stays_behind, data_accesses, nine_executed}
-use Rattle.ds_machine.proofs.Words.{is_private_tcm, is_private_to_seven, nine_side, seven_side}
-use Rattle.arm_core.specs.Undefined.{is_undefined}
+use Rattle.ds_machine.proofs.Words.{Access, AllReachPrivate, Bool, Contains, Coprocessor, Cost, Cp15State, Dtcm, Fetch, Instr, IoState, IsSharedSo}
+use Rattle.ds_machine.proofs.Words.{Itcm, List, MapState, MoveOutcome, Moved, Nine, NineReach, None, Option, Outcome, Past, ReachesPrivate, Read}
+use Rattle.ds_machine.proofs.Words.{RegisterState, SevenReach, Some, Tcm, V5, Width, Write, [], aligned_down, ap, arith, arm7, arm9, cost_of}
+use Rattle.ds_machine.proofs.Words.{data_accesses, false, has_coprocessor, holds, if◌then◌else◌, inl, inr, is_private_place, is_private_tcm}
+use Rattle.ds_machine.proofs.Words.{is_private_to_seven, is_undefined, low_or_high, move_clocks, move_of, moved_if, nine_executed, nine_memory}
+use Rattle.ds_machine.proofs.Words.{nine_side, nine_wait, none-some, not, place_of, read_by, refl, register_moved, same_Some, seven_memory}
+use Rattle.ds_machine.proofs.Words.{seven_side, seven_wait, skipped, some_cost, span, stays_behind, sym, tcm_of, tcm_read, tcm_refusal, tcm_written}
+use Rattle.ds_machine.proofs.Words.{true, true≢false, width_bytes, with_number, ℕ, ◌<◌, ◌^◌, ◌∙◌, ◌≡◌, ◌≤◌}
+use Rattle.ds_machine.proofs.NineReads.{tcm_fetched, tcm_value}
 use Rattle.arm_core.specs.declared.outcomes.Stepped.{Stepped}
-use Rattle.arm9_exec.specs.Coprocessors.{move_clocks, read_by}
 use Rattle.ds_map.proofs.NineShares.{IsOwnAddress, IsSharedAlike, NineBytes, nine_fetched_alike, nine_none_refused, nine_put, nine_read_leaves, nine_value_alike, nine_write_leaves, nine_wrote_alike, nine_wrote_at, no_address, private_address, so_shared, stays_alike}
 use Rattle.ds_machine.proofs.PrivateAccesses.{AsPrivate, IsApart, StepsAlike}
 use Rattle.ds_machine.proofs.PrivatePlaces.{IsLow, fixed_wait, low_fixed, low_place, map_fetched_alike, map_none_refused, map_read_leaves, map_value_alike, map_write_leaves, private_itself, wram_written, with_wram}

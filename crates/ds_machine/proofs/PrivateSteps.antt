@@ -1,8 +1,8 @@
-use Rattle.ds_machine.proofs.Words.{not, ◌&&◌, ℕ, ◌≡◌, ◌+◌, Bool, true, false, true≢false, if◌then◌else◌, Option, Some, None, refl, sym, ◌∙◌, ap}
-use Rattle.ds_machine.proofs.Words.{subst, MemoryMachine, Stop, Width, Half, Word, Arch, Instr, Swi, ThumbSwi, holds, condition, meaning}
-use Rattle.ds_machine.proofs.Words.{RegisterState, is_thumb, FetchOutcome, Setting, enters, executed_unless, executed_word, fetched, fetched_half}
-use Rattle.ds_machine.proofs.Words.{fetched_word, stop_of, swi_stop, AllReachPrivate, StaysPrivate, may_go_ahead, stays_behind, data_accesses}
-use Rattle.ds_machine.proofs.Words.{data_waits, next_fetch, waits_of_step, SideOf, side_taken, side_waits, if_false, waits_of}
+use Rattle.ds_machine.proofs.Words.{AllReachPrivate, Arch, Bool, FetchOutcome, Half, Instr, MemoryMachine, None, Option, RegisterState, Setting}
+use Rattle.ds_machine.proofs.Words.{SideOf, Some, StaysPrivate, Stop, Swi, ThumbSwi, Width, Word, ap, condition, data_accesses, data_waits, enters}
+use Rattle.ds_machine.proofs.Words.{executed_unless, executed_word, false, fetched, fetched_half, fetched_word, holds, if_false, if◌then◌else◌}
+use Rattle.ds_machine.proofs.Words.{is_thumb, may_go_ahead, meaning, next_fetch, not, refl, side_taken, side_waits, stays_behind, stop_of, subst}
+use Rattle.ds_machine.proofs.Words.{swi_stop, sym, true, true≢false, waits_of, waits_of_step, ℕ, ◌&&◌, ◌+◌, ◌∙◌, ◌≡◌}
 use Rattle.ds_machine.proofs.PrivateAccesses.{IsApart, StepsAlike, access_moves, all_move, carried_alike, waits_alike}
 use Rattle.ds_machine.proofs.Taken.{taken_executed}
 

@@ -1,19 +1,15 @@
-use Rattle.ds_machine.proofs.Words.{ℕ, suc, ◌≡◌, ◌<◌, ◌+◌, ◌-◌, ◌%◌, ◌^◌, inl, inr, if◌then◌else◌, Bool, true, false, true≢false, List, [], ◌∷◌, ◌++◌}
-use Rattle.ds_machine.proofs.Words.{length, Option, Some, Contains, refl, sym, ◌∙◌, ap, subst, arith, ◌&&◌, ◌||◌, list_all, Contains-append_left}
-use Rattle.ds_machine.proofs.Words.{Contains-append_right, and_parts, Access, Fetch, MemoryMachine, Read, Write, architecture_of, Width, Half, Word}
-use Rattle.ds_machine.proofs.Words.{Arch, V4, V5, Proc, Nine, Seven, decoded_arm, decoded_thumb, Instr, AreOfData, span, meaning, RegisterState}
-use Rattle.ds_machine.proofs.Words.{is_thumb, fetched, fetched_half, fetched_word, Reach, nine_memory, seven_memory, fetch_of, AllReachPrivate}
-use Rattle.ds_machine.proofs.Words.{ProcessorStaysPrivate, ReachesPrivate, StaysPrivate, may_go_ahead, data_accesses, next_fetch, SideOf, nine_side}
-use Rattle.ds_machine.proofs.Words.{seven_side, MachineState, nine_reach, processor_of, seven_reach, tick_of, FetchStaysPrivate, InstrStaysPrivate}
-use Rattle.ds_machine.proofs.Words.{IsFootprint, data_private, instr_at, is_private_to}
-use Rattle.std.proofs.Common.{◌↔◌, not}
-use Rattle.std.proofs.lemmas.List.Elements.{All-contains, Contains-append_cases}
+use Rattle.ds_machine.proofs.Words.{Access, AllReachPrivate, Arch, Bool, Contains, Fetch, FetchStaysPrivate, Half, Instr, InstrReaches}
+use Rattle.ds_machine.proofs.Words.{InstrStaysPrivate, IsFootprint, List, MachineState, MemoryMachine, Nine, Option, Proc, ProcessorStaysPrivate}
+use Rattle.ds_machine.proofs.Words.{Reach, ReachesPrivate, Read, RegisterState, Seven, SideOf, Some, StaysPrivate, V4, V5, Width, Word, Write, []}
+use Rattle.ds_machine.proofs.Words.{access_bytes, and_from, and_parts, ap, architecture_of, arith, data_accesses, data_private, decoded_arm}
+use Rattle.ds_machine.proofs.Words.{decoded_thumb, false, fetch_of, fetched, fetched_half, fetched_word, if◌then◌else◌, inl, inr, instr_at}
+use Rattle.ds_machine.proofs.Words.{is_private_to, is_thumb, length, list_all, may_go_ahead, meaning, next_fetch, nine_memory, nine_reach, nine_side}
+use Rattle.ds_machine.proofs.Words.{not, processor_of, refl, seven_memory, seven_reach, seven_side, span, subst, suc, sym, tick_of, true, true≢false}
+use Rattle.ds_machine.proofs.Words.{ℕ, ◌%◌, ◌&&◌, ◌++◌, ◌+◌, ◌-◌, ◌<◌, ◌^◌, ◌||◌, ◌↔◌, ◌∙◌, ◌∷◌, ◌≡◌}
+use Rattle.std.proofs.lemmas.List.Elements.{Contains-append_left, Contains-append_right, All-contains, Contains-append_cases}
+use Rattle.arm_core.specs.FootprintLaws.{AreOfData, AreAsTold, AreReads, AreWrites, Covers, accessed_bytes, touched_bytes}
 use Rattle.std.proofs.lemmas.List.Sums.{AllPass-from_list_all}
-use Rattle.std.proofs.lemmas.Bool.{and_from}
-use Rattle.arm_core.specs.FootprintLaws.{AreAsTold, AreReads, AreWrites, Covers, accessed_bytes, touched_bytes}
-use Rattle.arm_core.specs.Footprints.{access_bytes}
 use Rattle.arm_core.specs.declared.touches.Touch.{Touch}
-use Rattle.ds_machine.specs.Touching.{InstrReaches}
 
 -- What the code tells of private places is so.
 

@@ -1,9 +1,9 @@
-use Rattle.ds_machine.proofs.Words.{ℕ, ◌≡◌, ◌≤◌, ◌^◌, inl, inr, Bool, true, false, true≢false, List, [], ◌∷◌, Contains, refl, sym, ap, not, and_right}
-use Rattle.ds_machine.proofs.Words.{or_from, low_or_high, Access, Fetch, Read, Write, aligned_down, width_bytes, Width, Proc, Nine, Seven, span}
-use Rattle.ds_machine.proofs.Words.{enters, fetched, tcm_of, Tcm, Itcm, Dtcm, Past, MapState, is_private_place, NineReach, nine_memory, place_of}
-use Rattle.ds_machine.proofs.Words.{Place, Cell, Banks, Port, Rom, Nothing, actor_of, Processor, access_observes, any_observes, is_observed_past}
-use Rattle.ds_machine.proofs.Words.{is_observed_place, observes_by, AllReachPrivate, IsPrivate, ReachesPrivate, rank_of, data_accesses}
-use Rattle.ds_machine.proofs.Words.{is_private_tcm, nine_side, MachineState, line_of, nine_reach, tick_of}
+use Rattle.ds_machine.proofs.Words.{Access, AllReachPrivate, Banks, Bool, Cell, Contains, Dtcm, Fetch, IsPrivate, Itcm, List, MachineState, MapState}
+use Rattle.ds_machine.proofs.Words.{Nine, NineReach, Nothing, Past, Place, Port, Proc, Processor, ReachesPrivate, Read, Rom, Seven, Tcm, Width, Write}
+use Rattle.ds_machine.proofs.Words.{[], access_observes, actor_of, aligned_down, and_right, any_observes, ap, data_accesses, enters, false, fetched}
+use Rattle.ds_machine.proofs.Words.{inl, inr, is_observed_past, is_observed_place, is_private_place, is_private_tcm, line_of, low_or_high}
+use Rattle.ds_machine.proofs.Words.{nine_memory, nine_reach, nine_side, not, observes_by, or_from, place_of, rank_of, refl, span, sym, tcm_of}
+use Rattle.ds_machine.proofs.Words.{tick_of, true, true≢false, width_bytes, ℕ, ◌^◌, ◌∷◌, ◌≡◌, ◌≤◌}
 use Rattle.ds_map.proofs.NineShares.{no_place}
 use Rattle.ds_machine.proofs.PrivatePlaces.{private_itself}
 

@@ -1,15 +1,14 @@
-use Rattle.ds_machine.proofs.Words.{ℕ, ◌≡◌, ◌<◌, ◌≤◌, ◌+◌, ◌^◌, inl, inr, Bool, true, false, true≢false, List, [], ◌∷◌, Some, refl, sym, ◌∙◌, ap}
-use Rattle.ds_machine.proofs.Words.{subst, arith, AreKeyLines, IsLater, Reschedules, LeftOut, Proc, Nine, Seven, Tick, Cost, Halted, Left, CostsSome}
-use Rattle.ds_machine.proofs.Words.{other_proc, IsIo, Goes, IsProcessorIo, HasOnlyLaterEvents, ReschedulesEach, io_of, all_io_dues, goes_io, of_both}
-use Rattle.ds_machine.proofs.Words.{processor_io_is, MachineStep, Makes, Stops, Processor, same_makes, same_stops, not_both, Shown, awake, due_unless}
-use Rattle.ds_machine.proofs.Words.{processor_due, shown_at, step_by, HasSoundParts, stepped_of, MachineState, ProcessorState, counts_of}
-use Rattle.ds_machine.proofs.Words.{machine_concluded, gone_by, is_halted, is_blocked, outcome_of, processor_of, tick_of, went_on, with_halt, ended}
-use Rattle.ds_machine.proofs.Words.{scan_due}
+use Rattle.ds_machine.proofs.Words.{AreKeyLines, Bool, Cost, CostsSome, Goes, Halted, HasOnlyLaterEvents, HasSoundParts, IsIo, IsLater, IsProcessorIo}
+use Rattle.ds_machine.proofs.Words.{Left, LeftOut, List, MachineState, MachineStep, Makes, Nine, Proc, Processor, ProcessorState, Reschedules}
+use Rattle.ds_machine.proofs.Words.{ReschedulesEach, Seven, Shown, Some, Stops, Tick, [], all_io_dues, ap, arith, awake, counts_of, due_then}
+use Rattle.ds_machine.proofs.Words.{due_unless, ended, false, goes_io, gone_by, inl, inr, io_of, is_blocked, is_halted, machine_concluded, not_both}
+use Rattle.ds_machine.proofs.Words.{of_both, other_proc, outcome_of, processor_due, processor_io_is, processor_of, refl, same_makes, same_stops}
+use Rattle.ds_machine.proofs.Words.{scan_due, shown_at, step_by, stepped_of, subst, sym, tick_is, tick_of, true, true≢false, went_on, with_halt, ℕ}
+use Rattle.ds_machine.proofs.Words.{◌+◌, ◌<◌, ◌^◌, ◌∙◌, ◌∷◌, ◌≡◌, ◌≤◌}
 use Rattle.arm_core.specs.declared.outcomes.Stepped as arm
 use Rattle.ds_machine.specs.declared.answers.Done as answer
 use Rattle.ds_machine.specs.declared.answers.Done.TheVariants as answers
 use Rattle.ds_machine.proofs.Costs.{step_costs}
-use Rattle.ds_machine.proofs.DueTicks.{due_then, tick_is}
 use Rattle.ds_machine.proofs.Moves.{Moves, blocked_moves, moves_of, other_held, same_keys, then_io_dues}
 use Rattle.ds_machine.proofs.Others.{step_goes}
 use Rattle.ds_machine.proofs.Rooms.{reached_within}

@@ -1,12 +1,11 @@
-use Rattle.ds_machine.proofs.Words.{ℕ, zero, suc, option_map, ◌≡◌, ◌<◌, ◌≤◌, inl, inr, Bool, true, false, true≢false, List, Option, Some, None, refl, sym, ◌∙◌}
-use Rattle.ds_machine.proofs.Words.{ap, subst, arith, is_some, or_parts, IsLater, Proc, Nine, Seven, Tick, after_both, LastUnit, DmaState, any_runs}
-use Rattle.ds_machine.proofs.Words.{channel_at, io_due, HasOnlyLaterEvents, ProcessorIoState, blocks_processor, io_of, actor_of, IsLeast, due_at}
-use Rattle.ds_machine.proofs.Words.{KeyScript, Video, Timer, Divider, SquareRoot, Geometry, Card, Dma, Processor, acting_dues, IsAhead, IsBelowFence}
-use Rattle.ds_machine.proofs.Words.{rank_of, Fences, due_by, dues_of, processor_due, MachineState, is_blocked, is_halted, processor_of, tick_of}
-use Rattle.ds_dma.specs.States.{AreReadyLater}
+use Rattle.ds_machine.proofs.Words.{AreReadyLater, Bool, Card, Divider, Dma, DmaState, Fences, Geometry, HasOnlyLaterEvents, IsAhead, IsBelowFence}
+use Rattle.ds_machine.proofs.Words.{IsLater, IsLeast, KeyScript, LastUnit, List, MachineState, Nine, None, Option, Proc, Processor, ProcessorIoState}
+use Rattle.ds_machine.proofs.Words.{Seven, Some, SquareRoot, Tick, Timer, Video, acting_dues, actor_of, after_both, any_runs, ap, arith}
+use Rattle.ds_machine.proofs.Words.{blocks_processor, channel_at, due_at, due_by, due_of_rank, due_then, dues_of, false, inl, inr, io_due, io_of}
+use Rattle.ds_machine.proofs.Words.{is_blocked, is_halted, is_some, option_map, or_parts, processor_due, processor_of, rank_of, refl, subst, suc, sym}
+use Rattle.ds_machine.proofs.Words.{tick_of, true, true≢false, zero, ℕ, ◌<◌, ◌∙◌, ◌≡◌, ◌≤◌}
 use Rattle.ds_runs.specs.declared.actors.Actor as actor
 use Rattle.ds_machine.proofs.ActingDues.{acting_processor, other_acts}
-use Rattle.ds_machine.proofs.DueTicks.{due_of_rank, due_then}
 use Rattle.ds_machine.proofs.Moves.{later_if}
 
 -- Where a processor, or a DMA channel, takes its step, its timers are due later: they have lower ranks.

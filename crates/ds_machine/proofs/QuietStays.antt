@@ -1,6 +1,6 @@
-use Rattle.ds_machine.proofs.Words.{is_some, ℕ, ◌≡◌, ◌≢◌, true, false, List, sym, ◌∙◌, ap, subst, none-some, Tick, any_armed, is_quiet, IoState}
-use Rattle.ds_machine.proofs.Words.{actor_of, Makes, Geometry, GxState, is_stalled, acting_due, ActsUnobserving, Shown, reference_step, HasSoundParts}
-use Rattle.ds_machine.proofs.Words.{MachineState, ended}
+use Rattle.ds_machine.proofs.Words.{ActsUnobserving, Geometry, GxState, HasSoundParts, IoState, List, MachineState, Makes, Shown, Tick, acting_due}
+use Rattle.ds_machine.proofs.Words.{actor_of, any_armed, ap, ended, false, is_quiet, is_some, is_stalled, none-some, reference_step, subst, sym, true}
+use Rattle.ds_machine.proofs.Words.{ℕ, ◌∙◌, ◌≡◌, ◌≢◌}
 use Rattle.ds_runs.specs.declared.actors.Actor as actor
 use Rattle.ds_machine.proofs.ActingDues.{acting_low, acting_of_rank}
 use Rattle.ds_machine.proofs.LagCommutes.{arms_left, ended_disarmed, ended_gx_left, gx_left}

@@ -1,11 +1,10 @@
-use Rattle.ds_machine.proofs.Words.{ℕ, ◌≡◌, ◌<◌, ◌≤◌, ◌-◌, ◌==◌, Bool, true, false, true≢false, if◌then◌else◌, None, inl, inr, refl, sym, arith}
-use Rattle.ds_machine.proofs.Words.{low_or_high, memory_size, Shared, Own7, Width, Proc, Nine, Seven, Tick, RefusesNoneInRam, is_ram, tcm_of, Tcm}
-use Rattle.ds_machine.proofs.Words.{Cells, Empty, place_at, place_of, shared_for_nine, Place, Cell, Banks, Port, Rom, Nothing, in_row, past_row}
-use Rattle.ds_machine.proofs.Words.{after_read_at, map_read, map_refusal, map_written, written_at, refusal_at, is_guarded, MapState, NineReach}
-use Rattle.ds_machine.proofs.Words.{nine_memory, seven_memory, tcm_refusal, tcm_written, IoState}
+use Rattle.ds_machine.proofs.Words.{Banks, Bool, Cell, IoState, MapState, Nine, NineReach, None, Nothing, Own7, Place, Port, Proc, RefusesNoneInRam}
+use Rattle.ds_machine.proofs.Words.{Rom, Seven, Shared, Tcm, Tick, Width, after_read_at, arith, false, if◌then◌else◌, in_row, inl, inr, is_guarded}
+use Rattle.ds_machine.proofs.Words.{is_ram, low_or_high, map_read, map_refusal, map_written, meets_guard, memory_size, nine_memory, past_row}
+use Rattle.ds_machine.proofs.Words.{place_of, refl, refusal_at, seven_memory, shared_for_nine, sym, tcm_of, tcm_refusal, tcm_written, true}
+use Rattle.ds_machine.proofs.Words.{true≢false, written_at, ℕ, ◌-◌, ◌<◌, ◌==◌, ◌≡◌, ◌≤◌}
+use Rattle.ds_places.specs.AddressTables.{Cells, Empty, place_at, is_of_region, main_region, own_region, shared_for_seven}
 use Rattle.cp15_tcm.specs.declared.answers.Tcm.TheVariants as tcm
-use Rattle.ds_places.specs.AddressTables.{is_of_region, main_region, own_region, shared_for_seven}
-use Rattle.ds_map.specs.Guards.{meets_guard}
 
 -- RAM, 2000000h to 3FFFFFFh, are cells for both processors, or nothing is there: no access of them changes a unit.
 

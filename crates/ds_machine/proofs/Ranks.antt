@@ -1,5 +1,5 @@
-use Rattle.ds_machine.proofs.Words.{ℕ, ◌≡◌, ◌<◌, inl, inr, arith, same_or_not, Proc, Nine, Seven, actor_of, Geometry, Processor, actors_differ}
-use Rattle.ds_machine.proofs.Words.{geometry_rank, rank_of}
+use Rattle.ds_machine.proofs.Words.{Geometry, Nine, Proc, Processor, Seven, actor_of, actors_differ, arith, geometry_rank, inl, inr, rank_of}
+use Rattle.ds_machine.proofs.Words.{same_or_not, ℕ, ◌<◌, ◌≡◌}
 
 -- An actor has one rank.
 

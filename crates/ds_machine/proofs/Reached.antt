@@ -1,8 +1,6 @@
-use Rattle.ds_machine.proofs.Words.{ℕ, Bool, ◌≡◌, List, [], ◌∷◌, ◌++◌, length, refl, sym, ◌∙◌, ap, arith, Outcome, RegisterState, Proc, Nine, Seven}
-use Rattle.ds_machine.proofs.Words.{Tick, MapState, map_seen, unreached, SevenReach, seven_memory, IoState, seven_side, side_taken, MachineState}
-use Rattle.ds_machine.proofs.Words.{ProcessorState, line_of, map_of, outcome_of, seven_reach, with_map, with_seven}
-use Rattle.std.proofs.lemmas.List.{append-nil}
-use Rattle.ds_map.specs.Maps.{MemoriesState}
+use Rattle.ds_machine.proofs.Words.{Bool, IoState, List, MachineState, MapState, MemoriesState, Nine, Outcome, Proc, ProcessorState, RegisterState}
+use Rattle.ds_machine.proofs.Words.{Seven, SevenReach, Tick, [], ap, append-nil, arith, length, line_of, map_of, map_seen, outcome_of, refl}
+use Rattle.ds_machine.proofs.Words.{seven_memory, seven_reach, seven_side, side_taken, sym, unreached, with_map, with_seven, ℕ, ◌++◌, ◌∙◌, ◌∷◌, ◌≡◌}
 
 -- The code has all memories in one place, and hands them with the units to each processor: what it left of those that it reaches is what its map has, and
 -- the others are as they were.

@@ -1,17 +1,13 @@
-use Rattle.ds_machine.proofs.Words.{ℕ, ◌≡◌, ◌≤◌, ◌+◌, ◌/◌, ◌^◌, Option, Some, None, refl, sym, ◌∙◌, subst, arith, ◌&&◌, either, aligned_down, Stop}
-use Rattle.ds_machine.proofs.Words.{Vram, Width, Byte, Half, Word, Proc, Nine, Seven, Tick, place_of, Place, IoState, ignores, port_refusal}
-use Rattle.ds_machine.proofs.Words.{port_written, slot_joined, unless_stopped, whole_in, ProcessorIoState, slot_of, after_write, Register, Dmacnt}
-use Rattle.ds_machine.proofs.Words.{Haltcnt, Slot, AreWaiting, GxState, waiting_entries, vram_written, is_byte_of_nine, map_written, takes_no_bytes}
-use Rattle.ds_machine.proofs.Words.{written_at, MapState}
+use Rattle.ds_machine.proofs.Words.{AreWaiting, Byte, Dmacnt, GxState, Half, Haltcnt, IoState, MapState, Nine, None, Option, Place, Proc}
+use Rattle.ds_machine.proofs.Words.{ProcessorIoState, Register, Seven, Slot, Some, Stop, Tick, Vram, Width, Word, after_write, aligned_down, arith}
+use Rattle.ds_machine.proofs.Words.{either, gx_set, is_byte_of_nine, map_written, most_entries, place_of, refl, slot_of, subst, sym, takes_no_bytes}
+use Rattle.ds_machine.proofs.Words.{vram_written, waiting_entries, with_io_of, written_at, written_waiting, ℕ, ◌&&◌, ◌+◌, ◌/◌, ◌^◌, ◌∙◌, ◌≡◌, ◌≤◌}
+use Rattle.ds_ports.specs.Ports.{ignores, port_refusal, port_written, slot_joined, unless_stopped, whole_in, byte_written, half_written, slot_written}
+use Rattle.ds_ports.specs.Ports.{word_written, written_or}
 use Rattle.ds_places.specs.declared.kinds.Place.TheVariants as place
-use Rattle.ds_ports.specs.Io.{with_io_of}
-use Rattle.ds_ports.specs.Ports.{byte_written, half_written, slot_written, word_written, written_or}
-use Rattle.ds_ports.specs.Registers.{gx_set}
 use Rattle.ds_ports.specs.declared.registers.Register.TheVariants.{GxWord, GxCommand, Dmasad, Dmadad, TmcntL, TmcntH, Keycnt, Ime, Ie, If}
 use Rattle.ds_ports.proofs.Grows.{write_grows}
 use Rattle.ds_ports.proofs.GxPorts.{written_longer}
-use Rattle.gx_fifo.specs.Entries.{most_entries}
-use Rattle.gx_fifo.proofs.Laws.{written_waiting}
 
 -- What a write makes of geometry.
 

@@ -1,19 +1,17 @@
-use Rattle.ds_machine.proofs.Words.{ℕ, ◌≡◌, ◌≤◌, ◌+◌, ◌*◌, nat_lt, if◌then◌else◌, Bool, true, false, List, [], ◌∷◌, length, Option, Some, None, refl}
-use Rattle.ds_machine.proofs.Words.{sym, ◌∙◌, ap, subst, arith, none-some, or_parts, Access, Fetch, Performed, Read, Write, perform, refused_or, Stop}
-use Rattle.ds_machine.proofs.Words.{Width, Arch, V5, Proc, Nine, Seven, Tick, Instr, interrupt_meaning, meaning, RegisterState, Setting, enters}
-use Rattle.ds_machine.proofs.Words.{executed_word, fetched, Cost, Halted, Left, arm7, arm9, move_of, Moved, Cp15State, tcm_of, Tcm, Itcm, Dtcm, Past}
-use Rattle.ds_machine.proofs.Words.{LeftOut, channel_due, map_value, MapState, map_after_unit, next_unit, unit_moved, unit_read, unit_refusal}
-use Rattle.ds_machine.proofs.Words.{unit_taken, NineReach, SevenReach, nine_memory, seven_memory, tcm_read, tcm_written, map_read_leaves, held_due}
-use Rattle.ds_machine.proofs.Words.{io_due, IoState, level_told, settled, blocks_processor, processor_io_triggered, actor_of, MachineStep, Makes}
-use Rattle.ds_machine.proofs.Words.{Stops, Dma, Processor, AreWaiting, GxState, is_half_empty, is_stalled, waiting_entries, channel_step, moved_by}
-use Rattle.ds_machine.proofs.Words.{Shown, awake, due_by, processor_due, reference_step, step_by, FindsRoom, accesses_of, step_accesses, nine_side}
-use Rattle.ds_machine.proofs.Words.{seven_side, side_taken, nine_executed, MachineState, left_by, ended, goes_on, is_blocked, line_of}
-use Rattle.ds_machine.proofs.Words.{machine_concluded, machine_settled, map_of, nine_reach, outcome_of, processor_of, processor_step, seven_reach}
-use Rattle.ds_machine.proofs.Words.{tick_of, wakes, with_map, woken_one}
+use Rattle.ds_machine.proofs.Words.{Access, Arch, AreWaiting, Bool, Cost, Cp15State, Dma, DmaUnit, Dtcm, Fetch, FindsRoom, GxState, Halted, Instr}
+use Rattle.ds_machine.proofs.Words.{IoState, Itcm, Left, LeftOut, List, MachineState, MachineStep, Makes, MapState, Moved, Nine, NineReach, None}
+use Rattle.ds_machine.proofs.Words.{Option, Past, Performed, Proc, Processor, Read, RegisterState, Setting, Seven, SevenReach, Shown, Some, Stop}
+use Rattle.ds_machine.proofs.Words.{Stops, Tcm, Tick, V5, Width, Write, [], accesses_of, actor_of, ap, arith, arm7, arm9, awake, blocks_processor}
+use Rattle.ds_machine.proofs.Words.{channel_due, channel_step, due_by, ended, enters, executed_word, false, fetched, goes_on, held_due, if◌then◌else◌}
+use Rattle.ds_machine.proofs.Words.{interrupt_meaning, io_due, is_blocked, is_half_empty, is_stalled, left_by, length, level_told, line_of}
+use Rattle.ds_machine.proofs.Words.{machine_concluded, machine_settled, map_after_unit, map_of, map_read_leaves, map_value, meaning, move_of}
+use Rattle.ds_machine.proofs.Words.{moved_by, nat_lt, next_unit, nine_executed, nine_memory, nine_reach, nine_side, none-some, or_parts, outcome_of}
+use Rattle.ds_machine.proofs.Words.{perform, processor_due, processor_io_triggered, processor_of, processor_step, read_leaves, reference_step, refl}
+use Rattle.ds_machine.proofs.Words.{refused_or, settled, seven_memory, seven_reach, seven_side, side_taken, step_accesses, step_by, subst, sym}
+use Rattle.ds_machine.proofs.Words.{taken_leaves, tcm_of, tcm_read, tcm_written, tick_of, true, unit_moved, unit_read, unit_refusal, unit_taken}
+use Rattle.ds_machine.proofs.Words.{waiting_entries, wakes, with_map, woken_one, ℕ, ◌*◌, ◌+◌, ◌∙◌, ◌∷◌, ◌≡◌, ◌≤◌}
 use Rattle.arm_core.specs.declared.outcomes.Stepped as arm
 use Rattle.ds_dma.specs.declared.controls.Cause.TheVariants as causes
-use Rattle.ds_dma.specs.declared.channels.Unit.{Unit as DmaUnit}
-use Rattle.ds_map.proofs.Guards.{read_leaves, taken_leaves}
 use Rattle.ds_runs.specs.declared.actors.Actor as actor
 use Rattle.ds_machine.specs.Rooms.{InstructionsFindRoom, NineStepsFindRoom, NineUnitsFindRoom, SevenStepsLeaveGeometry, SevenUnitsLeaveGeometry, StepFindsRoom, StepsFindRoom, UnitFindsRoom}
 use Rattle.ds_machine.specs.Steps.{StepOutcome}

@@ -1,17 +1,15 @@
-use Rattle.ds_machine.proofs.Words.{ℕ, ◌≡◌, ◌≢◌, ◌<◌, ◌≤◌, ◌+◌, ◌*◌, ◌^◌, ◌⊎◌, inl, inr, List, ◌∷◌, Option, Some, None, refl, sym, ◌∙◌, ap, subst}
-use Rattle.ds_machine.proofs.Words.{arith, [], same_or_not, IsLater, LeftOut, Proc, Nine, Seven, Tick, actor_of, MovesOn, Ending, IsLeast, IsOver}
-use Rattle.ds_machine.proofs.Words.{Makes, Runs, due_at, over, stops, more, Geometry, actors_differ, at_rank, is_later, least_unique, run_exists}
-use Rattle.ds_machine.proofs.Words.{same_makes, HasShortRun, IsRunning, RunsAfter, last_limit, run_of, CatchesUpFor, ComesBeforeAll}
-use Rattle.ds_machine.proofs.Words.{StepsBeforeGeometry, TakesGeometry, IsAhead, rank_of, RunsAhead, Shown, dues_of, processor_due, reference}
-use Rattle.ds_machine.proofs.Words.{reference_step, HasSoundParts, IsSound, stepped_of, MachineState, counts_of, processor_of, tick_of, MayAct}
-use Rattle.ds_machine.proofs.Words.{MayStep, own_remaining, ticks_left, GxState}
+use Rattle.ds_machine.proofs.Words.{CatchesUpFor, ComesBeforeAll, Ending, Geometry, GxState, HasShortRun, HasSoundParts, IsAhead, IsLater, IsLeast}
+use Rattle.ds_machine.proofs.Words.{IsOver, IsRunning, IsSound, LeftOut, List, MachineState, Makes, MayAct, MayStep, MovesOn, Nine, None, Option}
+use Rattle.ds_machine.proofs.Words.{Proc, Runs, RunsAhead, Seven, Shown, Some, StepsBeforeGeometry, TakesGeometry, Tick, [], actor_of, actors_differ}
+use Rattle.ds_machine.proofs.Words.{ap, arith, at_rank, counts_of, due_at, due_of_may, due_of_rank, dues_of, inl, inr, is_later, last_limit, least_is}
+use Rattle.ds_machine.proofs.Words.{least_unique, low_rank, more, next_shown, over, own_remaining, own_tick, place_rises, processor_due, processor_of}
+use Rattle.ds_machine.proofs.Words.{rank_of, rank_there, reference, reference_step, refl, run_exists, run_of, same_makes, same_or_not, stepped_of}
+use Rattle.ds_machine.proofs.Words.{stops, subst, sym, tick_of, ticks_left, ℕ, ◌*◌, ◌+◌, ◌<◌, ◌^◌, ◌∙◌, ◌∷◌, ◌≡◌, ◌≢◌, ◌≤◌, ◌⊎◌}
+use Rattle.ds_machine.specs.CountingLaws.{RunsAfter, CountsAddUp, EndsWithin, LimitsRise, StartsRunning, StepsCount, StepsKeepRunning, StopsCountNone}
 use Rattle.ds_runs.specs.LastLaws.{LeadsTo, here, step}
 use Rattle.ds_runs.specs.declared.actors.Actor as actor
 use Rattle.ds_runs.proofs.Lasts.{last_after, last_ahead, last_lags}
-use Rattle.ds_runs.proofs.RunExists.{least_is, place_rises}
-use Rattle.ds_machine.specs.CountingLaws.{CountsAddUp, EndsWithin, LimitsRise, StartsRunning, StepsCount, StepsKeepRunning, StopsCountNone}
 use Rattle.ds_machine.specs.Lagging as lagging
-use Rattle.ds_machine.specs.Reference.{next_shown}
 use Rattle.ds_machine.specs.declared.answers.Done as answer
 use Rattle.ds_machine.specs.declared.answers.Done.TheVariants as answers
 use Rattle.ds_machine.proofs.ActingSteps.{Acted, ActedStops, CaughtUp, apart_goes, caught_up}
@@ -19,7 +17,6 @@ use Rattle.ds_machine.proofs.ActingDues.{due_where_acts}
 use Rattle.ds_machine.proofs.AheadRuns.{ahead_steps, runs_ahead}
 use Rattle.ds_machine.proofs.CatchingUp.{behind_steps, still_before}
 use Rattle.ds_machine.proofs.CountSteps.{one_more, one_more_as, stop_counts}
-use Rattle.ds_machine.proofs.DueTicks.{due_of_may, due_of_rank, low_rank, own_tick, rank_there}
 use Rattle.ds_machine.proofs.LagLaw.{may_lag}
 use Rattle.ds_machine.proofs.MachineSchedule.{Steps, owes_as, reference_schedules, sound_as, step_made_as}
 use Rattle.ds_machine.proofs.Moves.{moves_all}

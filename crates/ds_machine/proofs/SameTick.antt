@@ -1,12 +1,9 @@
-use Rattle.ds_machine.proofs.Words.{◌||◌, ℕ, ◌≡◌, ◌≢◌, ◌+◌, ◌==◌, ◌⊎◌, inl, inr, Bool, true, false, List, [], Option, Some, sym, ◌∙◌, ap, subst}
-use Rattle.ds_machine.proofs.Words.{arith, none-some, true_or_false, LeftOut, Tick, is_quiet, actor_of, StepsBefore, IsLeast, Makes, Stops, due_at}
-use Rattle.ds_machine.proofs.Words.{actors_differ, is_later, least_unique, acting_dues, is_due_before, StepsBeforeGeometry, more_geometry}
-use Rattle.ds_machine.proofs.Words.{no_geometry, observes_by, Shown, dues_of, reference, reference_step, IsSound, MachineState}
-use Rattle.std.specs.Prelude.{nat_lt}
-use Rattle.std.proofs.Common.{◌&&◌}
+use Rattle.ds_machine.proofs.Words.{Bool, IsLeast, IsSound, LeftOut, List, MachineState, Makes, Option, Shown, Some, StepsBefore, StepsBeforeGeometry}
+use Rattle.ds_machine.proofs.Words.{Stops, Tick, [], acting_dues, actor_of, actors_differ, ap, arith, due_at, due_of_least, dues_of, false, inl, inr}
+use Rattle.ds_machine.proofs.Words.{is_due_before, is_later, is_quiet, least_unique, more_geometry, nat_lt, no_geometry, none-some, observes_by}
+use Rattle.ds_machine.proofs.Words.{reference, reference_step, subst, sym, true, true_or_false, ℕ, ◌&&◌, ◌+◌, ◌==◌, ◌||◌, ◌∙◌, ◌≡◌, ◌≢◌, ◌⊎◌}
 use Rattle.ds_machine.proofs.ActingDues.{acting_low, acting_of_rank, loud_same}
 use Rattle.ds_machine.proofs.CatchingUp.{CaughtSo, caught_so}
-use Rattle.ds_machine.proofs.DueTicks.{due_of_least}
 use Rattle.ds_machine.proofs.LagLaw.{may_lag}
 use Rattle.ds_machine.proofs.LagSteps.{quiet_acts_never}
 

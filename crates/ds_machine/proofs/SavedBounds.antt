@@ -1,5 +1,6 @@
-use Rattle.ds_machine.proofs.Words.{ℕ, suc, ◌<◌, ◌^◌, List, [], ◌∷◌, slice_index, AllByRecursion, AreRegisters, Proc, Nine, Seven, IoState, io_of}
-use Rattle.ds_machine.proofs.Words.{IsIrq, MachineState, processor_of}
+use Rattle.ds_machine.proofs.Words.{AllByRecursion, IoState, IsIrq, List, MachineState, Nine, Proc, Seven, [], io_of, processor_of, slice_index, suc}
+use Rattle.ds_machine.proofs.Words.{ℕ, ◌<◌, ◌^◌, ◌∷◌}
+use Rattle.arm_core.specs.Saved.{AreRegisters}
 
 -- What holds of both, and of each.
 

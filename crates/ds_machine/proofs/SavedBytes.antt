@@ -1,14 +1,11 @@
-use Rattle.ds_machine.proofs.Words.{ℕ, ◌≡◌, Bool, false, List, [], Ok, Err, refl, sym, ◌∙◌, subst, Proc, card_format, channel_format_by, dma_format_by, DmaState}
-use Rattle.ds_machine.proofs.Words.{bytes_written, ◌>>=◌, ReadAnswer, read_format, IrqState, irq_levelled, irq_format_by, gx_format_by, video_format}
-use Rattle.ds_machine.proofs.Words.{Around, around_of, machine_format, machine_parts, MachineState, dma_format, irq_format}
-use Rattle.ds_state.proofs.Exact.{one_spelling}
-use Rattle.ds_state.specs.Formats.{Format, done, then_field, then_part, list}
-use Rattle.ds_state.specs.Reading.{Left, read_code, read_list, ruled}
+use Rattle.ds_machine.proofs.Words.{Around, Bool, DmaState, Err, Format, IrqState, List, MachineState, MachinesAreSaved, Ok, Proc, [], around_of}
+use Rattle.ds_machine.proofs.Words.{bytes_written, card_format, channel_format_by, dma_format, dma_format_by, done, false, gx_format_by, irq_format}
+use Rattle.ds_machine.proofs.Words.{irq_format_by, irq_levelled, list, machine_format, machine_parts, one_spelling, refl, spelled_once, subst, sym}
+use Rattle.ds_machine.proofs.Words.{then_field, then_part, video_format, ℕ, ◌∙◌, ◌≡◌}
+use Rattle.ds_state.specs.Reading.{◌>>=◌, ReadAnswer, read_format, Left, read_code, read_list, ruled}
 use Rattle.ds_timers.proofs.SavedLaws.{irqs_saved}
-use Rattle.gx_geometry.proofs.Opened.{spelled_once}
 use Rattle.ds_machine.proofs.SavedExact.{machine_exact}
 use Rattle.ds_machine.proofs.SavedParts.{machine_reads, machine_writes}
-use Rattle.ds_machine.specs.Saved.{MachinesAreSaved}
 
 -- The bytes are those of the state alone, and what is read has what was handed in.
 

@@ -1,13 +1,11 @@
-use Rattle.ds_machine.proofs.Words.{rules, ℕ, ◌≡◌, Bool, true, false, refl, ◌∙◌, ap, bit_not, w32, registers_format, cp15_format, equal, Arch, V4, V5}
-use Rattle.ds_machine.proofs.Words.{Nine, Seven, and_or_apart, word_format, StandsFor, IrqState, events, irq_levelled, level, irq_format_by, gx_level}
-use Rattle.ds_machine.proofs.Words.{Around, SavedUnits, asked_of, is_late, channels_format, machine_parts, memories_format, processor_format}
-use Rattle.ds_machine.proofs.Words.{processors_format, units_format, late_runs_by, irq_format, sleeps_by, holds_by}
+use Rattle.ds_machine.proofs.Words.{Arch, Around, Bool, IrqState, IsExact, Nine, SavedUnits, Seven, StandsFor, V4, V5, ap, asked_of, bit_not}
+use Rattle.ds_machine.proofs.Words.{card_exact, channels_format, cp15_format, dma_exact, equal, events, false, gx_level, holds_by, irq_format}
+use Rattle.ds_machine.proofs.Words.{irq_format_by, irq_levelled, is_late, late_runs_by, level, machine_parts, memories_format, processor_format}
+use Rattle.ds_machine.proofs.Words.{processors_format, refl, registers_format, rules, sleeps_by, true, units_format, w32, word_format, ℕ, ◌∙◌, ◌≡◌}
+use Rattle.std.proofs.lemmas.Nat.{and_or_apart}
 use Rattle.cp15_tcm.proofs.Kept.{control_again}
-use Rattle.ds_card.proofs.SavedLaws.{card_exact}
-use Rattle.ds_dma.proofs.SavedLaws.{dma_exact}
 use Rattle.ds_ipc.proofs.SavedLaws.{ipc_exact}
 use Rattle.ds_math.proofs.SavedLaws.{divider_exact, root_exact}
-use Rattle.ds_state.proofs.Standing.{IsExact}
 use Rattle.ds_timers.proofs.SavedLaws.{irq_exact, timers_exact}
 use Rattle.gx_fifo.proofs.SavedLaws.{gx_exact}
 use Rattle.video2d.proofs.SavedLaws.{video_exact}

@@ -1,19 +1,18 @@
-use Rattle.ds_machine.proofs.Words.{ℕ, zero, suc, All, bit_and, bit_or, ◌^◌, ◌≡◌, ◌<◌, ◌≤◌, ◌+◌, ◌*◌, Bool, true, false, true≢false, if◌then◌else◌}
-use Rattle.ds_machine.proofs.Words.{List, [], ◌∷◌, Option, Ok, refl, sym, ◌∙◌, ap, subst, arith, ◌&&◌, not, HasNineStatuses, RegisterState}
-use Rattle.ds_machine.proofs.Words.{registers_format, HasStatuses, IsStatus, Cp15State, cp15_format, both_true, equal, if_true, is_equal, KeyLine}
-use Rattle.ds_machine.proofs.Words.{Arch, V4, V5, Nine, Seven, card_format, dma_format_by, any_runs, awaits_geometry, dma_due, DmaDue, divider_format}
-use Rattle.ds_machine.proofs.Words.{root_format, channel_comes_before, is_settled, release_by, release_of, IsOver, StandsFor, read_format, IrqState}
-use Rattle.ds_machine.proofs.Words.{events, irq_levelled, shares_bit, irq_format_by, timers_format, gx_level, is_half_empty, is_stalled, gx_format_by}
-use Rattle.ds_machine.proofs.Words.{Asked, scans_follow, video_format, ScanState, scan_due, IsRunning, dues_of, keys_due, Around, SavedChannels}
-use Rattle.ds_machine.proofs.Words.{SavedProcessor, SavedProcessors, SavedUnits, asked_of, channels_format, is_late, machine_format}
-use Rattle.ds_machine.proofs.Words.{machine_parts, memories_format, processor_format, processors_format, released_again, saved_channels}
-use Rattle.ds_machine.proofs.Words.{saved_memories, saved_processors, saved_units, script_from, units_format, AreAsleep, HasSoundParts, MachineState}
-use Rattle.ds_machine.proofs.Words.{counts_of, with_file, HasBothStatuses, late_runs_by, irq_format, sleeps_by, holds_by}
+use Rattle.ds_machine.proofs.Words.{All, Arch, AreAsleep, Around, Asked, Bool, Cp15State, DmaDue, HasBothStatuses, HasNineStatuses, HasSoundParts}
+use Rattle.ds_machine.proofs.Words.{HasStatuses, IrqState, IsOver, IsRunning, IsStatus, KeyLine, List, MachineState, Nine, Ok, Option, RegisterState}
+use Rattle.ds_machine.proofs.Words.{SavedChannels, SavedProcessor, SavedProcessors, SavedUnits, ScanState, Seven, StandsFor, V4, V5, [], any_runs, ap}
+use Rattle.ds_machine.proofs.Words.{arith, asked_of, awaits_geometry, bit_and, bit_or, both_true, card_format, channel_comes_before, channels_format}
+use Rattle.ds_machine.proofs.Words.{control_mask, control_ones, counts_of, cp15_format, dma_due, dma_format_by, dues_of, equal, events, false}
+use Rattle.ds_machine.proofs.Words.{gx_format_by, gx_level, holds_by, if_true, if◌then◌else◌, irq_format, irq_format_by, irq_levelled, is_equal}
+use Rattle.ds_machine.proofs.Words.{is_half_empty, is_late, is_settled, is_stalled, keys_due, late_runs_by, machine_format, machine_parts}
+use Rattle.ds_machine.proofs.Words.{memories_format, not, processor_format, processors_format, reads_exactly, refl, registers_format, release_by}
+use Rattle.ds_machine.proofs.Words.{release_of, released_again, saved_channels, saved_memories, saved_processors, saved_units, scan_due, scans_follow}
+use Rattle.ds_machine.proofs.Words.{script_from, shares_bit, sleeps_by, subst, suc, sym, timers_format, true, true≢false, units_format, video_format}
+use Rattle.ds_machine.proofs.Words.{with_file, zero, ℕ, ◌&&◌, ◌*◌, ◌+◌, ◌<◌, ◌^◌, ◌∙◌, ◌∷◌, ◌≡◌, ◌≤◌}
+use Rattle.ds_math.specs.Saved.{divider_format, root_format}
+use Rattle.ds_state.specs.Reading.{read_format, Left}
 use Rattle.std.specs.Int.Bits.{and_le_r, or_add_and}
-use Rattle.cp15_tcm.specs.Registers.{control_mask, control_ones}
 use Rattle.ds_state.proofs.Codes.{AreBytes}
-use Rattle.ds_state.proofs.Exact.{reads_exactly}
-use Rattle.ds_state.specs.Reading.{Left}
 use Rattle.ds_machine.proofs.Pairs.{◌⨾◌}
 use Rattle.ds_machine.proofs.Running.{starts_running}
 use Rattle.ds_machine.proofs.SavedParts.{machine_reads}

@@ -1,9 +1,8 @@
 -- The machine's format, and the parts in which the code takes it from bytes.
-use Rattle.ds_machine.proofs.Words.{ℕ, ◌≡◌, true, List, [], ◌∷◌, refl, subst, ◌∙◌, KeyLine, bytes_written, read_format, MachineState, Around, around_of}
-use Rattle.ds_machine.proofs.Words.{channels_format, machine_format, machine_parts, memories_format, processor_format, processors_format, units_format}
-use Rattle.ds_state.specs.Formats.{Format}
-use Rattle.ds_state.specs.Reading.{Left}
-use Rattle.gx_geometry.proofs.Opened.{open_by, open_reads}
+use Rattle.ds_machine.proofs.Words.{Around, Format, KeyLine, List, MachineState, [], around_of, bytes_written, channels_format, machine_format}
+use Rattle.ds_machine.proofs.Words.{machine_parts, memories_format, open_by, open_reads, processor_format, processors_format, refl, subst, true}
+use Rattle.ds_machine.proofs.Words.{units_format, ℕ, ◌∙◌, ◌∷◌, ◌≡◌}
+use Rattle.ds_state.specs.Reading.{read_format, Left}
 
 abbrev four_opened : Around → ℕ → Format MachineState MachineState
 four_opened around at = open_by (true ∷ true ∷ true ∷ true ∷ []) (machine_parts around at)

@@ -1,11 +1,9 @@
-use Rattle.ds_machine.proofs.Words.{ℕ, ◌≡◌, Bool, Ok, Err, Result, ap, subst, sym, card_format, ◌>>=◌, ReadAnswer, read_format, GxState, gx_format_by}
-use Rattle.ds_machine.proofs.Words.{Asked, video_format, VideoState, Around, SavedChannels, SavedProcessors, SavedUnits, asked_of, channels_format}
-use Rattle.ds_machine.proofs.Words.{is_late, machine_parts, memories_format, processors_format, units_format, holds_by}
-use Rattle.std.specs.Prelude.{IsErrAnd}
-use Rattle.ds_state.specs.Reading.{FailsIn, Fails, GivesIn, Left}
+use Rattle.ds_machine.proofs.Words.{Around, Asked, Bool, Err, GxState, IsErrAnd, Ok, Result, SavedChannels, SavedMemories, SavedProcessors}
+use Rattle.ds_machine.proofs.Words.{SavedUnits, VideoState, ap, asked_of, card_format, channels_format, gx_format_by, holds_by, is_late}
+use Rattle.ds_machine.proofs.Words.{machine_parts, memories_format, processors_format, subst, sym, units_format, video_format, ℕ, ◌≡◌}
+use Rattle.ds_state.specs.Reading.{◌>>=◌, ReadAnswer, read_format, FailsIn, Fails, GivesIn, Left}
 use Rattle.ds_state.specs.declared.unpacker.Unpacked.{Unpacked}
 use Rattle.ds_state.specs.declared.unpacker.Unpacked.TheVariants.{NoMemory, Bad}
-use Rattle.ds_machine.specs.SavedParts.{SavedMemories}
 
 -- Where a part of the machine isn't read, the machine isn't.
 

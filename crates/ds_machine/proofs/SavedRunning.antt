@@ -1,16 +1,13 @@
-use Rattle.ds_machine.proofs.Words.{ℕ, zero, suc, ◌≡◌, ◌≤◌, ◌==◌, nat_lt, Bool, true, false, true≢false, if◌then◌else◌, List, [], ◌∷◌, Option, Some}
-use Rattle.ds_machine.proofs.Words.{None, bit_and, bit_or, max, refl, sym, ◌∙◌, ap, subst, arith, ◌&&◌, ◌||◌, not, bit_at, bit_not, w32}
-use Rattle.ds_machine.proofs.Words.{AllByRecursion, le-max_left, le-max_right, bit_at-zero, bit_at_and, bit_at_or, same_from_bits, both, both_true}
-use Rattle.ds_machine.proofs.Words.{equal, le_of, not_false, due_number, KeyLine, Seven, Tick, CardState, card_due, card_format, Channel}
-use Rattle.ds_machine.proofs.Words.{is_running, ready, channel_format_by, dma_format_by, DmaState, any_runs, channel_at, channel_due, dma_due}
-use Rattle.ds_machine.proofs.Words.{due_with, least_running, divider_format, root_format, held_due, channel_comes_before, IsOver, kept_twice, soon}
-use Rattle.ds_machine.proofs.Words.{StandsFor, IrqState, events, irq_levelled, level, shares_bit, irq_format_by, timers_format, TimerState, timer_at}
-use Rattle.ds_machine.proofs.Words.{timer_due, GxState, gx_level, is_half_empty, is_stalled, waiting_entries, gx_format_by, holds_by, Asked}
-use Rattle.ds_machine.proofs.Words.{video_format, scan_before, VideoState, keys_due, script_from, late_runs_by, sleeps_by}
-use Rattle.std.proofs.Common.{IfSome}
-use Rattle.ds_base.proofs.Choices.{not_lt, not_true}
-use Rattle.ds_dma.proofs.SavedLaws.{none_earlier}
-use Rattle.ds_dma.specs.Saved.{asked_last, comes_by}
+use Rattle.ds_machine.proofs.Words.{AllByRecursion, Asked, Bool, CardState, Channel, DmaState, GxState, IfSome, IrqState, IsOver, KeyLine, List, None}
+use Rattle.ds_machine.proofs.Words.{Option, Seven, Some, StandsFor, Tick, TimerState, VideoState, [], any_runs, ap, arith, asked_last, bit_and}
+use Rattle.ds_machine.proofs.Words.{bit_at, bit_at-zero, bit_at_and, bit_at_or, bit_not, bit_or, both, both_true, card_due, card_format, channel_at}
+use Rattle.ds_machine.proofs.Words.{channel_comes_before, channel_due, channel_format_by, comes_by, dma_due, dma_format_by, due_number, due_with}
+use Rattle.ds_machine.proofs.Words.{equal, events, false, gx_format_by, gx_level, held_due, holds_by, if◌then◌else◌, irq_format_by, irq_levelled}
+use Rattle.ds_machine.proofs.Words.{is_half_empty, is_running, is_stalled, kept_twice, keys_due, late_runs_by, le-max_left, le-max_right, le_of}
+use Rattle.ds_machine.proofs.Words.{least_running, level, max, nat_lt, none_earlier, not, not_false, not_lt, not_true, ready, refl, same_from_bits}
+use Rattle.ds_machine.proofs.Words.{scan_before, script_from, shares_bit, sleeps_by, soon, subst, suc, sym, timer_at, timer_due, timers_format, true}
+use Rattle.ds_machine.proofs.Words.{true≢false, video_format, w32, waiting_entries, zero, ℕ, ◌&&◌, ◌==◌, ◌||◌, ◌∙◌, ◌∷◌, ◌≡◌, ◌≤◌}
+use Rattle.ds_math.specs.Saved.{divider_format, root_format}
 use Rattle.ds_math.specs.Dividers.{DividerState}
 use Rattle.ds_math.specs.Roots.{RootState}
 use Rattle.ds_timers.specs.Saved.{anchor_number, anchors_by, numbered_anchor, timer_format}

@@ -1,6 +1,5 @@
-use Rattle.ds_machine.proofs.Words.{ℕ, ◌≡◌, ◌<◌, nat_lt, true, false, true≢false, List, [], ◌∷◌, length, refl, sym, ◌∙◌, ap, arith, if_false, if_true}
-use Rattle.ds_machine.proofs.Words.{KeyLine, script_from}
-use Rattle.ds_machine.specs.Saved.{starts_before}
+use Rattle.ds_machine.proofs.Words.{KeyLine, List, [], ap, arith, false, if_false, if_true, length, nat_lt, refl, script_from, starts_before, sym}
+use Rattle.ds_machine.proofs.Words.{true, true≢false, ℕ, ◌<◌, ◌∙◌, ◌∷◌, ◌≡◌}
 
 -- The lines of a key script that are due at a tick or later.
 

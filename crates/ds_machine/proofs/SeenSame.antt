@@ -1,13 +1,12 @@
-use Rattle.ds_machine.proofs.Words.{ℕ, ◌≡◌, ◌%◌, ◌^◌, Bool, true, false, if◌then◌else◌, Some, refl, sym, ◌∙◌, ap, Width, Proc, Nine, Seven, Tick}
-use Rattle.ds_machine.proofs.Words.{is_thumb, enters, tcm_of, Tcm, Itcm, Dtcm, Past, tcm_fetched, with_gx, GxState, fetch_of, processor_due}
-use Rattle.ds_machine.proofs.Words.{MachineState, ProcessorState, is_blocked, line_of, nine_reach, processor_of, seven_reach, tick_of}
+use Rattle.ds_machine.proofs.Words.{Bool, Dtcm, GxState, Itcm, MachineState, Nine, Past, Proc, ProcessorState, Seven, Some, Tcm, Tick, Width, ap}
+use Rattle.ds_machine.proofs.Words.{due_then, enters, false, fetch_of, if◌then◌else◌, is_blocked, is_thumb, line_of, nine_reach, processor_due}
+use Rattle.ds_machine.proofs.Words.{processor_of, refl, seen_by, seen_of, seven_reach, sym, tcm_of, tick_of, true, with_gx, ℕ, ◌%◌, ◌^◌, ◌∙◌, ◌≡◌}
+use Rattle.ds_machine.proofs.NineReads.{tcm_fetched}
 use Rattle.ds_base.specs.declared.memories.Width.TheVariants as width
 use Rattle.ds_map.proofs.GxApart as gx_map
-use Rattle.ds_machine.specs.Inspections.{seen_by, seen_of}
 use Rattle.ds_machine.specs.declared.answers.Seen.{Seen}
 use Rattle.ds_machine.specs.declared.answers.Seen.TheVariants.{Half, Irq, Word}
 use Rattle.ds_machine.proofs.CatchingUp.{CaughtSo}
-use Rattle.ds_machine.proofs.DueTicks.{due_then}
 use Rattle.ds_machine.proofs.OwnRemaining.{still_due}
 
 -- What a processor that is due does next is the same after steps of quiet geometry: no fetch sees geometry.

@@ -1,21 +1,19 @@
-use Rattle.ds_machine.proofs.Words.{ℕ, ◌≡◌, ◌+◌, Bool, List, [], ◌∷◌, take, All, Option, Some, None, refl, sym, subst, arith, either, KeyLine}
-use Rattle.ds_machine.proofs.Words.{LeftOut, Arch, V4, V5, Proc, Nine, Seven, Tick, Outcome, RegisterState, Cost, Halted, Left, IsStatus, HasStatuses}
-use Rattle.ds_machine.proofs.Words.{arm7, HasNineStatuses, image_of, image_place, NineReach, SevenReach, nine_memory, seven_memory, actor_of, Ending}
-use Rattle.ds_machine.proofs.Words.{At, MachineStep, Makes, Stops, Runs, over, stops, more, Dma, Processor, header_bytes, header_place, machine_blank}
-use Rattle.ds_machine.proofs.Words.{with_image, copied, stored, Shown, awake, due_by, reference, reference_step, step_by, stepped_of, nine_side}
-use Rattle.ds_machine.proofs.Words.{seven_side, side_taken, MachineState, HasBothStatuses, left_by, ended, goes_on, gone_by, line_of}
-use Rattle.ds_machine.proofs.Words.{machine_concluded, machine_settled, nine_reach, outcome_of, processor_of, processor_step, seven_reach, tick_of}
-use Rattle.ds_machine.proofs.Words.{wakes, woken_one, machine_graft, unchanged_by}
+use Rattle.ds_machine.proofs.Words.{All, Arch, At, Bool, Cost, Dma, Ending, Halted, HasBothStatuses, HasNineStatuses, HasStatuses, IsStatus, KeyLine}
+use Rattle.ds_machine.proofs.Words.{Left, LeftOut, List, MachineState, MachineStep, Makes, Nine, NineReach, None, Option, Outcome, Proc, Processor}
+use Rattle.ds_machine.proofs.Words.{RegisterState, Runs, Seven, SevenReach, Shown, Some, Stops, Tick, V4, V5, [], actor_of, arith, arm7, awake}
+use Rattle.ds_machine.proofs.Words.{copied, due_by, either, ended, goes_on, gone_by, header_bytes, header_place, image_entry, image_of, image_place}
+use Rattle.ds_machine.proofs.Words.{left_by, line_of, machine_blank, machine_concluded, machine_graft, machine_settled, more, nine_memory, nine_reach}
+use Rattle.ds_machine.proofs.Words.{nine_side, outcome_of, over, processor_of, processor_step, reference, reference_step, refl, seven_memory}
+use Rattle.ds_machine.proofs.Words.{seven_reach, seven_side, side_taken, stacks_of, step_by, stepped_of, stops, stored, subst, sym, take, tick_of}
+use Rattle.ds_machine.proofs.Words.{unchanged_by, wakes, with_image, woken_one, ℕ, ◌+◌, ◌∷◌, ◌≡◌}
 use Rattle.std.proofs.lemmas.List.Elements.{All-cons, All-nil}
 use Rattle.arm_core.specs.Cores as cores
 use Rattle.arm_core.specs.declared.outcomes.Stepped as arm
 use Rattle.arm_exec.proofs.StatusBits.{no_status}
 use Rattle.arm_exec.proofs.StatusSteps.{step_has}
 use Rattle.arm9_exec.proofs.Statuses.{step9_has}
-use Rattle.ds_header.specs.Fields.{image_entry}
 use Rattle.ds_runs.specs.Runs as runs
 use Rattle.ds_runs.specs.declared.actors.Actor as actor
-use Rattle.ds_machine.specs.Booted.{stacks_of}
 use Rattle.ds_machine.specs.declared.answers.Done as answer
 use Rattle.ds_machine.specs.declared.answers.Done.TheVariants as answers
 use Rattle.ds_machine.specs.Statuses.{BootsWithStatuses, RunsKeepStatuses, StepsKeepStatuses}

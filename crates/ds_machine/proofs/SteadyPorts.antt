@@ -1,5 +1,4 @@
-use Rattle.ds_machine.proofs.Words.{ℕ, ◌≡◌, ◌≤◌, ◌<◌, ◌-◌, nat_le, nat_lt, true, false, arith, not, and_parts, not-true, is_steady_port}
-use Rattle.std.proofs.Common.{◌&&◌}
+use Rattle.ds_machine.proofs.Words.{and_parts, arith, false, is_steady_port, nat_le, nat_lt, not, not-true, true, ℕ, ◌&&◌, ◌-◌, ◌<◌, ◌≡◌, ◌≤◌}
 use Rattle.ds_map.specs.ObservedPorts.{is_observed_port}
 
 -- Where ports stand of which a read changes no unit, and shows nothing of geometry.

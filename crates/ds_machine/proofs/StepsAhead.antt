@@ -1,7 +1,7 @@
-use Rattle.ds_machine.proofs.Words.{ℕ, ◌≡◌, ◌<◌, ◌+◌, List, refl, sym, ◌∙◌, ap, subst, [], ◌&&◌, AreKeyLines, Proc, Nine, Seven, other_proc, IsIo}
-use Rattle.ds_machine.proofs.Words.{IoState, io_of, is_settled, Makes, shares_bit, IsSharedSo, NineOwn, nine_own_of, with_nine_own, with_seven_part}
-use Rattle.ds_machine.proofs.Words.{IsHarmless, rank_of, reference_step, HasSoundParts, IsSound, MachineState, SevenState, nine_reach, processor_of}
-use Rattle.ds_machine.proofs.Words.{seven_reach, tick_of}
+use Rattle.ds_machine.proofs.Words.{AreKeyLines, HasSoundParts, IoState, IsHarmless, IsIo, IsSharedSo, IsSound, List, MachineState, Makes, Nine}
+use Rattle.ds_machine.proofs.Words.{NineOwn, Proc, Seven, SevenState, [], ap, io_of, is_settled, nine_own_of, nine_reach, other_proc, processor_of}
+use Rattle.ds_machine.proofs.Words.{rank_of, reference_step, refl, seven_reach, shares_bit, subst, sym, tick_of, with_nine_own, with_seven_part, ℕ}
+use Rattle.ds_machine.proofs.Words.{◌&&◌, ◌+◌, ◌<◌, ◌∙◌, ◌≡◌}
 use Rattle.ds_machine.proofs.InnerLaw.{after_nine, after_seven, calm, inner_nine, inner_seven, nine_later, nine_fits, seven_later}
 
 -- A processor's step before its turn: what it leaves.

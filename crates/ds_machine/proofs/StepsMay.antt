@@ -1,15 +1,14 @@
-use Rattle.ds_machine.proofs.Words.{ℕ, ◌≡◌, ◌<◌, ◌⊎◌, inl, inr, Bool, true, false, if◌then◌else◌, List, ◌∷◌, Some, Result, Ok, Err, refl, sym, ◌∙◌}
-use Rattle.ds_machine.proofs.Words.{ap, subst, [], IsLater, LeftOut, Stop, Proc, Nine, Seven, Tick, io_due, actor_of, IsLeast, MachineStep, Makes}
-use Rattle.ds_machine.proofs.Words.{due_at, KeyScript, Video, Timer, Geometry, Dma, Processor, is_numbered, same_makes, not_both, GxState, Swapped}
-use Rattle.ds_machine.proofs.Words.{scan_due, scan_due_tick, VideoState, video_answer, acting_dues, stopped_at, ActsUnobserving, IsAhead, rank_of}
-use Rattle.ds_machine.proofs.Words.{Shown, after_event, after_geometry, after_line, after_video, dues_of, reference_step, shown_at, step_by}
-use Rattle.ds_machine.proofs.Words.{video_step, HasSoundParts, stepped_of, MachineState, ended, processor_of, tick_of}
+use Rattle.ds_machine.proofs.Words.{ActsUnobserving, Bool, Dma, Err, Geometry, GxState, HasSoundParts, IsAhead, IsLater, IsLeast, KeyScript, LeftOut}
+use Rattle.ds_machine.proofs.Words.{List, MachineState, MachineStep, Makes, Nine, Ok, Proc, Processor, Result, Seven, Shown, Some, Stop, Swapped}
+use Rattle.ds_machine.proofs.Words.{Tick, Timer, Video, VideoState, [], acting_dues, actor_of, after_event, after_geometry, after_line, after_video}
+use Rattle.ds_machine.proofs.Words.{ap, due_at, due_of_rank, dues_of, ended, false, if◌then◌else◌, inl, inr, io_due, is_numbered, low_rank, not_both}
+use Rattle.ds_machine.proofs.Words.{own_tick, processor_of, rank_of, rank_there, reference_step, refl, same_makes, scan_due, scan_due_tick, shown_at}
+use Rattle.ds_machine.proofs.Words.{step_by, stepped_of, stopped_at, subst, sym, tick_of, true, video_answer, video_step, ℕ, ◌<◌, ◌∙◌, ◌∷◌, ◌≡◌, ◌⊎◌}
 use Rattle.ds_runs.specs.declared.actors.Actor as actor
 use Rattle.video2d.specs.declared.videos.Shown as display
 use Rattle.ds_machine.specs.declared.answers.Done as answer
 use Rattle.ds_machine.specs.declared.answers.Done.TheVariants as answers
 use Rattle.ds_machine.proofs.ActingDues.{due_where_acts}
-use Rattle.ds_machine.proofs.DueTicks.{due_of_rank, low_rank, own_tick, rank_there}
 use Rattle.ds_machine.proofs.Frames.{channel_outs, outs_of, processor_outs}
 use Rattle.ds_machine.proofs.MachineSchedule.{IsPartOf, Steps, part_late, step_made_as, steps_here}
 use Rattle.ds_machine.proofs.ProcessorSteps.{came_by, reached_by, step_is}

@@ -1,31 +1,27 @@
-use Rattle.ds_machine.proofs.Words.{ℕ, ◌≢◌, ◌==◌, ◌+◌, ◌/◌, ◌%◌, ◌^◌, Bool, true, false, if◌then◌else◌, List, [], ◌∷◌, map, Option, Some, None, subst}
-use Rattle.ds_machine.proofs.Words.{either, Access, Fetch, MemoryMachine, Performed, Read, Write, perform, refused_or, bit, CardState, start_refusal}
-use Rattle.ds_machine.proofs.Words.{aligned_down, LeftOut, Stop, Width, Byte, Half, Word, Arch, Proc, Nine, Seven, Tick, Instr, Swi, ThumbSwi, holds}
-use Rattle.ds_machine.proofs.Words.{Meaning, Outcome, carried_out, concluded, interrupt_meaning, undefined_meaning, condition, meaning, skipped}
-use Rattle.ds_machine.proofs.Words.{RegisterState, register, Setting, enters, executed_unless, executed_word, fetched, stop_of, swi_stop, Cost}
-use Rattle.ds_machine.proofs.Words.{Halted, Left, condition_of, arm7, arm9, MoveOutcome, carried_over, move_of, moved_if, register_moved, written_by}
-use Rattle.ds_machine.proofs.Words.{Moved, Cp15Register, Cp15State, write_answer, tcm_of, Tcm, Itcm, Dtcm, Past, is_enabled, channel_at, Cell, Banks}
-use Rattle.ds_machine.proofs.Words.{Port, Rom, Nothing, place_of, map_refusal, refusal_at, MapState, next_unit, unit_moved, unit_refusal, NineReach}
-use Rattle.ds_machine.proofs.Words.{SevenReach, nine_memory, seven_memory, tcm_refusal, io_due, IoState, io_of, ignores, port_refusal, slot_joined}
-use Rattle.ds_machine.proofs.Words.{whole_in, slot_of, meaning_of, Register, Auxspicnt, CardWord, Dmacnt, Haltcnt, Slot, actor_of, MachineStep, Makes}
-use Rattle.ds_machine.proofs.Words.{Stops, Dma, Processor, Video, VideoState, answer_unless, video_shown, video_stop, channel_step, moved_by, Shown}
-use Rattle.ds_machine.proofs.Words.{awake, due_by, step_by, video_step, SideOf, nine_side, seven_side, side_taken, side_waits, nine_executed, taken}
-use Rattle.ds_machine.proofs.Words.{MachineState, in_ticks, line_of, machine_concluded, map_of, nine_reach, outcome_of, processor_of, seven_reach}
-use Rattle.ds_machine.proofs.Words.{tick_of, with_map}
-use Rattle.std.proofs.Common.{◌&&◌, ◌||◌, not}
-use Rattle.ds_base.specs.Bits.{bits}
+use Rattle.ds_machine.proofs.Words.{Access, Arch, Auxspicnt, Banks, Bool, Byte, CardState, CardWord, Cell, Cost, Cp15State, Dma, Dmacnt, Dtcm, Fetch}
+use Rattle.ds_machine.proofs.Words.{Half, Haltcnt, Halted, Instr, IoState, Itcm, Left, LeftOut, List, MachineState, MachineStep, Makes, MapState}
+use Rattle.ds_machine.proofs.Words.{Meaning, MemoryMachine, MoveOutcome, Moved, Nine, NineReach, None, Nothing, Option, Outcome, Past, Performed}
+use Rattle.ds_machine.proofs.Words.{Port, Proc, Processor, Read, Register, RegisterState, Rom, Setting, Seven, SevenReach, Shown, SideOf, Slot, Some}
+use Rattle.ds_machine.proofs.Words.{Stop, Stops, Swi, Tcm, ThumbSwi, Tick, Video, VideoState, Width, Word, Write, [], actor_of, aligned_down}
+use Rattle.ds_machine.proofs.Words.{answer_unless, arm7, arm9, awake, bit, bits, carried_out, carried_over, channel_at, channel_step, concluded}
+use Rattle.ds_machine.proofs.Words.{condition, condition_of, due_by, either, enters, executed_unless, executed_word, false, fetched, holds}
+use Rattle.ds_machine.proofs.Words.{if◌then◌else◌, in_ticks, interrupt_meaning, io_due, io_of, is_served, line_of, machine_concluded, map, map_of}
+use Rattle.ds_machine.proofs.Words.{map_refusal, meaning, meaning_of, move_of, moved_by, moved_if, next_unit, nine_executed, nine_memory, nine_reach}
+use Rattle.ds_machine.proofs.Words.{nine_side, not, outcome_of, perform, place_of, processor_of, refusal_at, refused_or, register, register_moved}
+use Rattle.ds_machine.proofs.Words.{seven_memory, seven_reach, seven_side, side_taken, side_waits, skipped, slot_of, start_refusal, step_by, stop_of}
+use Rattle.ds_machine.proofs.Words.{subst, swi_stop, taken, tcm_of, tcm_refusal, tick_of, true, undefined_meaning, unit_moved, unit_refusal}
+use Rattle.ds_machine.proofs.Words.{video_shown, video_step, video_stop, with_map, written_by, ℕ, ◌%◌, ◌&&◌, ◌+◌, ◌/◌, ◌==◌, ◌^◌, ◌||◌, ◌∷◌, ◌≢◌}
+use Rattle.cp15_tcm.specs.Registers.{Cp15Register, write_answer, asks_big_endian}
+use Rattle.ds_dma.specs.Controls.{is_enabled, is_left_out, kept_channel_control, refusal}
+use Rattle.ds_ports.specs.Ports.{ignores, port_refusal, slot_joined, whole_in, byte_refusal, half_refusal, refusal_or, slot_refusal, word_refusal}
 use Rattle.std.specs.List.{range_with_len}
 use Rattle.ds_base.specs.declared.left_out.LeftKind.{LeftKind}
 use Rattle.ds_base.specs.declared.left_out.LeftKind.TheVariants as kinds
-use Rattle.arm_core.specs.Steps.{is_served}
 use Rattle.arm_core.specs.declared.outcomes.Stepped as arm
-use Rattle.cp15_tcm.specs.Registers.{asks_big_endian}
 use Rattle.cp15_tcm.specs.Registers.Cp15Register.{WaitForInterrupt}
 use Rattle.cp15_tcm.specs.declared.answers.Mcr as answer
 use Rattle.cp15_tcm.specs.declared.answers.Mcr.TheVariants as mcr
-use Rattle.ds_dma.specs.Controls.{is_left_out, kept_channel_control, refusal}
 use Rattle.ds_places.specs.declared.kinds.Place as place
-use Rattle.ds_ports.specs.Ports.{byte_refusal, half_refusal, refusal_or, slot_refusal, word_refusal}
 use Rattle.ds_ports.specs.Registers.{halt_refusal}
 use Rattle.ds_runs.specs.declared.actors.Actor as actor
 use Rattle.video2d.specs.Backgrounds.{is_background_on}

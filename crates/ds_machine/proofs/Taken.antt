@@ -1,8 +1,7 @@
-use Rattle.ds_machine.proofs.Words.{ℕ, ◌≡◌, ◌+◌, Bool, true, false, true≢false, Option, Some, None, refl, sym, ◌∙◌, ap, subst, MemoryMachine, Instr}
-use Rattle.ds_machine.proofs.Words.{Meaning, carried_out, interrupt_meaning, RegisterState, enters, fetched, operation_meaning, is_decoded}
-use Rattle.ds_machine.proofs.Words.{operation_of, operation_means, waits_of, Operation, operation_outcome, SideOf, side_taken, side_waits}
-use Rattle.ds_machine.proofs.Words.{data_accesses, data_waits, next_fetch, waits_of_step, taken}
-use Rattle.ds_machine.specs.DecodedSteps.{RunsAs}
+use Rattle.ds_machine.proofs.Words.{Bool, Instr, Meaning, MemoryMachine, None, Operation, Option, RegisterState, RunsAs, SideOf, Some, ap}
+use Rattle.ds_machine.proofs.Words.{carried_out, data_accesses, data_waits, enters, false, fetched, interrupt_meaning, is_decoded, next_fetch}
+use Rattle.ds_machine.proofs.Words.{operation_meaning, operation_means, operation_of, operation_outcome, refl, side_taken, side_waits, subst, sym}
+use Rattle.ds_machine.proofs.Words.{taken, true, true≢false, waits_of, waits_of_step, ℕ, ◌+◌, ◌∙◌, ◌≡◌}
 
 -- A step by what is entered and fetched.
 

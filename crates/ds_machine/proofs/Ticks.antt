@@ -1,6 +1,5 @@
-use Rattle.ds_machine.proofs.Words.{ℕ, ◌≡◌, ◌<◌, ◌≤◌, ◌+◌, ◌*◌, nat_le, max, if◌then◌else◌, Bool, true, false, Option, Some, None, ◌∙◌, ap, arith}
-use Rattle.ds_machine.proofs.Words.{le-max_left, ticks_per_clock, Proc, Nine, Seven, Outcome, Tick, LastUnit, in_ticks, past_unit}
-use Rattle.std.proofs.Math.Nat.{mul-le-mul_left}
+use Rattle.ds_machine.proofs.Words.{Bool, LastUnit, Nine, None, Option, Outcome, Proc, Seven, Some, Tick, ap, arith, false, if◌then◌else◌, in_ticks}
+use Rattle.ds_machine.proofs.Words.{le-max_left, max, mul-le-mul_left, nat_le, past_unit, ticks_per_clock, true, ℕ, ◌*◌, ◌+◌, ◌<◌, ◌∙◌, ◌≡◌, ◌≤◌}
 use Rattle.ds_machine.proofs.Commutes.{outcome_so}
 
 -- What a step costs in ticks.

@@ -1,13 +1,11 @@
-use Rattle.ds_machine.proofs.Words.{ℕ, ◌≡◌, ◌+◌, ◌-◌, ◌*◌, ◌/◌, ◌%◌, ◌^◌, ◌==◌, Bool, true, false, Option, Some, None, bit_and, bit_or, refl, sym}
-use Rattle.ds_machine.proofs.Words.{◌∙◌, ap, subst, arith, and_or_apart, ◌||◌, not, and_false, equal, bit, bits, LeftOut, Stop, Proc, Nine, Seven}
-use Rattle.ds_machine.proofs.Words.{Tick, RegisterState, enters, Cost, Halted, Left, other_proc, map_after_unit, next_unit, unit_refusal, IsTold}
-use Rattle.ds_machine.proofs.Words.{IsUnchanged, ipc_bits, io_of, ProcessorIoState, MachineStep, Dma, Processor, IrqState, line_is_up, channel_step}
-use Rattle.ds_machine.proofs.Words.{moved_by, hears_nobody, Shown, step_by, MachineState, left_by, machine_concluded, map_of, with_map}
-use Rattle.std.proofs.Common.{◌&&◌}
+use Rattle.ds_machine.proofs.Words.{Bool, Cost, Dma, DmaUnit, Halted, IrqState, IsTold, IsUnchanged, Left, LeftOut, MachineState, MachineStep, Nine}
+use Rattle.ds_machine.proofs.Words.{None, Option, Proc, Processor, ProcessorIoState, RegisterState, Seven, Shown, Some, Stop, Tick, and_false, ap}
+use Rattle.ds_machine.proofs.Words.{arith, bit, bit_and, bit_or, bits, channel_step, enters, equal, false, hears_nobody, io_of, ipc_bits, left_by}
+use Rattle.ds_machine.proofs.Words.{line_is_up, machine_concluded, map_after_unit, map_of, moved_by, next_unit, not, other_proc, refl, step_by, subst}
+use Rattle.ds_machine.proofs.Words.{sym, true, unit_refusal, with_map, ℕ, ◌%◌, ◌&&◌, ◌*◌, ◌+◌, ◌-◌, ◌/◌, ◌==◌, ◌^◌, ◌||◌, ◌∙◌, ◌≡◌}
+use Rattle.std.proofs.lemmas.Nat.{and_or_apart, and_comm, and_mask}
 use Rattle.std.specs.Int.Bits.{and_block, and_zero_l}
-use Rattle.std.proofs.lemmas.Nat.{and_comm, and_mask}
 use Rattle.arm_core.specs.declared.outcomes.Stepped as arm
-use Rattle.ds_dma.specs.declared.channels.Unit.{Unit as DmaUnit}
 use Rattle.ds_machine.proofs.ChannelEvents.{read_left, unit_other, unit_told}
 use Rattle.ds_machine.proofs.MachineSchedule.{Steps, channel_timers, operation}
 use Rattle.ds_machine.proofs.ProcessorSteps.{came_by, goes, reached_by}

@@ -1,14 +1,14 @@
-use Rattle.ds_machine.proofs.Words.{ℕ, ◌≡◌, Bool, true, false, if◌then◌else◌, List, [], ◌∷◌, ◌++◌, Option, Some, None, refl, sym, ◌∙◌, ap, Access}
-use Rattle.ds_machine.proofs.Words.{Fetch, Read, Write, aligned_down, KeyLine, LeftOut, Stop, Width, Proc, Nine, Seven, Tick, arm7, Outcome, fetched}
-use Rattle.ds_machine.proofs.Words.{Cost, Halted, Left, card_due, card_starter, MapState, next_unit, unit_moved, unit_refusal, unit_taken, IsSharedSo}
-use Rattle.ds_machine.proofs.Words.{SevenReach, seven_memory, place_of, Place, Banks, Cell, Nothing, Port, Rom, io_due, IoState, channels_triggered}
-use Rattle.ds_machine.proofs.Words.{both_raised, ProcessorIoState, MachineStep, Makes, Stops, KeyScript, Video, Timer, Divider, SquareRoot, Geometry}
-use Rattle.ds_machine.proofs.Words.{Card, Dma, Processor, scan_due, scan_due_tick, starts_vblank, VideoState, answer_unless, unless_stop}
-use Rattle.ds_machine.proofs.Words.{video_after_event, video_shown, video_stop, mixed_same, NineOwn, nine_own_of, with_nine_own, channel_step}
-use Rattle.ds_machine.proofs.Words.{moved_by, one_event, seven_wait, seven_side, side_taken, side_waits, Shown, after_line, shown_at, step_by}
-use Rattle.ds_machine.proofs.Words.{swapped_if, video_step, MachineState, left_by, line_of, machine_concluded, map_of, outcome_of, seven_reach}
-use Rattle.ds_machine.proofs.Words.{tick_of, with_io, with_map, with_seven, PartSet, RegistersNine, DueNine, StepsNine, RegistersSeven, DueSeven}
-use Rattle.ds_machine.proofs.Words.{StepsSeven, Cp15, OwnRam, CartFile, machine_graft, step_with, unchanged_by, untouched_by}
+use Rattle.ds_machine.proofs.Words.{Access, Banks, Bool, Card, CartFile, Cell, Cost, Cp15, Divider, Dma, DueNine, DueSeven, Fetch, Geometry, Halted}
+use Rattle.ds_machine.proofs.Words.{IoState, IsSharedSo, KeyLine, KeyScript, Left, LeftOut, List, MachineState, MachineStep, Makes, MapState, Nine}
+use Rattle.ds_machine.proofs.Words.{NineOwn, None, Nothing, Option, Outcome, OwnRam, PartSet, Place, Port, Proc, Processor, ProcessorIoState, Read}
+use Rattle.ds_machine.proofs.Words.{RegistersNine, RegistersSeven, Rom, Seven, SevenReach, Shown, Some, SquareRoot, StepsNine, StepsSeven, Stop}
+use Rattle.ds_machine.proofs.Words.{Stops, Tick, Timer, Video, VideoState, Width, Write, [], after_line, aligned_down, answer_unless, ap, arm7}
+use Rattle.ds_machine.proofs.Words.{both_raised, card_due, card_starter, channel_step, channels_triggered, covers_all, false, fetched, if◌then◌else◌}
+use Rattle.ds_machine.proofs.Words.{io_due, left_by, line_of, machine_concluded, machine_graft, map_of, mixed_same, moved_by, next_unit, nine_own_of}
+use Rattle.ds_machine.proofs.Words.{one_event, outcome_of, place_of, refl, scan_due, scan_due_tick, seven_memory, seven_reach, seven_side, seven_wait}
+use Rattle.ds_machine.proofs.Words.{shown_at, side_taken, side_waits, starts_vblank, step_by, step_with, swapped_if, sym, tick_of, true, unchanged_by}
+use Rattle.ds_machine.proofs.Words.{unit_moved, unit_refusal, unit_taken, unless_stop, untouched_by, video_after_event, video_shown, video_step}
+use Rattle.ds_machine.proofs.Words.{video_stop, with_io, with_map, with_nine_own, with_seven, ℕ, ◌++◌, ◌∙◌, ◌∷◌, ◌≡◌}
 use Rattle.ds_base.specs.Interrupts.{interrupt_bit}
 use Rattle.ds_base.specs.declared.interrupts.Interrupt.TheVariants.{Keys}
 use Rattle.ds_base.specs.declared.processors.Raised.{Raised}
@@ -19,7 +19,6 @@ use Rattle.ds_map.proofs.Passed as passed
 use Rattle.ds_map.proofs.Passed.{IsPast, OfOthers, PlacePasses, fetch_passes, place_passes}
 use Rattle.ds_ports.specs.ProcessorIo.{keys_hold, processor_io_raised}
 use Rattle.ds_ports.specs.Touches.{UnitPart, beyond, io_graft, touches_none}
-use Rattle.ds_ports.proofs.Covered.{covers_all}
 use Rattle.ds_ports.proofs.Passed.{units}
 use Rattle.ds_runs.specs.declared.actors.Actor as actor
 use Rattle.video2d.specs.declared.videos.Shown as display

@@ -1,11 +1,9 @@
-use Rattle.ds_machine.proofs.Words.{◌↔◌, ℕ, ◌≡◌, ◌<◌, ◌≤◌, inl, inr, List, Option, Some, refl, ◌∙◌, ap, subst, arith, LeftOut, Proc, Tick, Ending}
-use Rattle.ds_machine.proofs.Words.{IsLeast, Makes, Runs, Stops, acting_dues, IsRunning, last_frame, last_lists, CatchesUpFor, rank_of, Shown}
-use Rattle.ds_machine.proofs.Words.{reference, reference_step, IsSound, MachineState, counts_of, processor_of, tick_of, BelongsToTurn, TakesSteps}
-use Rattle.ds_machine.proofs.Words.{more_steps, no_steps, MayAct}
-use Rattle.std.specs.Prelude.{[]}
+use Rattle.ds_machine.proofs.Words.{BelongsToTurn, CatchesUpFor, Ending, IsLeast, IsRunning, IsSound, LeftOut, List, MachineState, Makes, MayAct}
+use Rattle.ds_machine.proofs.Words.{Option, Proc, Runs, Shown, Some, Stops, TakesSteps, Tick, [], acting_dues, ap, arith, counts_of, inl, inr}
+use Rattle.ds_machine.proofs.Words.{last_frame, last_lists, more_steps, no_steps, own_tick, processor_of, rank_of, reference, reference_step, refl}
+use Rattle.ds_machine.proofs.Words.{subst, tick_of, ℕ, ◌<◌, ◌↔◌, ◌∙◌, ◌≡◌, ◌≤◌}
 use Rattle.ds_machine.proofs.ActingDues.{acting_processor}
 use Rattle.ds_machine.proofs.ActingSteps.{Acted, ActedStops, acted_keeps, acting_runs}
-use Rattle.ds_machine.proofs.DueTicks.{own_tick}
 use Rattle.ds_machine.proofs.Running.{running_acted}
 
 -- What the steps of a processor's turn leave: a machine that goes on, and from which the reference run goes on.

@@ -1,10 +1,10 @@
-use Rattle.ds_machine.proofs.Words.{ℕ, ◌≡◌, ◌≤◌, ◌+◌, Bool, true, false, List, Option, refl, sym, ◌∙◌, ap, subst, arith, [], LeftOut, Proc, Nine}
-use Rattle.ds_machine.proofs.Words.{Seven, Tick, Cost, Halted, Left, next_unit, IoState, video_done, MachineStep, Makes, Video, Timer, Geometry, Dma}
-use Rattle.ds_machine.proofs.Words.{Processor, same_makes, GxState, channel_step, run_of, Shown, after_geometry, after_video, step_by, swapped_if}
-use Rattle.ds_machine.proofs.Words.{MachineState, left_by, gone_by, machine_graft, unchanged_by, scan_due_tick, starts_vblank}
+use Rattle.ds_machine.proofs.Words.{Bool, Cost, Dma, Geometry, GxState, Halted, IoState, Left, LeftOut, List, MachineState, MachineStep, Makes, Nine}
+use Rattle.ds_machine.proofs.Words.{Option, Proc, Processor, Seven, Shown, Tick, Timer, Video, [], after_geometry, after_video, ap, arith}
+use Rattle.ds_machine.proofs.Words.{channel_step, false, finished_run, gone_by, left_by, machine_graft, next_unit, refl, run_of, same_makes}
+use Rattle.ds_machine.proofs.Words.{scan_due_tick, starts_vblank, step_by, subst, swapped_if, swapped_run, sym, true, unchanged_by, video_done, ℕ}
+use Rattle.ds_machine.proofs.Words.{◌+◌, ◌∙◌, ◌≡◌, ◌≤◌}
 use Rattle.arm_core.specs.declared.outcomes.Stepped as arm
 use Rattle.ds_runs.specs.declared.actors.Actor as actor
-use Rattle.gx_fifo.proofs.Laws.{finished_run, swapped_run}
 use Rattle.ds_machine.proofs.ChannelEvents.{channel_made, unit_run}
 use Rattle.ds_machine.proofs.MachineSchedule.{Steps, channel_timers, operation}
 use Rattle.ds_machine.proofs.ProcessorSteps.{came_by, concludes, costs_some, goes, reached_by, step_is}

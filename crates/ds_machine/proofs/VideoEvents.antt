@@ -1,10 +1,10 @@
-use Rattle.ds_machine.proofs.Words.{ℕ, ◌≡◌, Bool, true, false, if◌then◌else◌, List, [], ◌∷◌, Option, Some, None, Result, Ok, Err, refl, sym, ◌∙◌, ap}
-use Rattle.ds_machine.proofs.Words.{arith, LeftOut, Stop, Proc, Nine, Seven, Tick, HBlank, VBlank, IoState, both_raised, channels_triggered}
-use Rattle.ds_machine.proofs.Words.{shown_to_others, video_done, GxState, MachineStep, Makes, Stops, Video, same_makes, same_stops, not_both}
-use Rattle.ds_machine.proofs.Words.{one_event, stopped_at, Shown, after_video, awake, display_done, shown_at, step_by, swapped_if, video_step}
-use Rattle.ds_machine.proofs.Words.{stepped_of, MachineState, ended, goes_on, machine_settled, wakes, with_io, woken_one, scan_due, scan_due_tick}
-use Rattle.ds_machine.proofs.Words.{starts_vblank, VideoState, answer_unless, unless_stop, video_after_event, video_answer, video_shown, video_stop}
-use Rattle.std.proofs.Common.{◌&&◌}
+use Rattle.ds_machine.proofs.Words.{Bool, Err, GxState, HBlank, IoState, LeftOut, List, MachineState, MachineStep, Makes, Nine, None, Ok, Option}
+use Rattle.ds_machine.proofs.Words.{Proc, Result, Seven, Shown, Some, Stop, Stops, Tick, VBlank, Video, VideoState, [], after_video, answer_unless}
+use Rattle.ds_machine.proofs.Words.{ap, arith, awake, both_raised, channels_triggered, display_done, ended, false, goes_on, if◌then◌else◌}
+use Rattle.ds_machine.proofs.Words.{machine_settled, not_both, one_event, refl, same_makes, same_stops, scan_due, scan_due_tick, shown_at}
+use Rattle.ds_machine.proofs.Words.{shown_to_others, starts_vblank, step_by, stepped_of, stopped_at, swapped_if, sym, true, unless_stop}
+use Rattle.ds_machine.proofs.Words.{video_after_event, video_answer, video_done, video_shown, video_step, video_stop, wakes, with_io, woken_one, ℕ}
+use Rattle.ds_machine.proofs.Words.{◌&&◌, ◌∙◌, ◌∷◌, ◌≡◌}
 use Rattle.ds_ports.proofs.Shows.{stop_stays}
 use Rattle.ds_machine.specs.declared.answers.Done.TheVariants as answers
 use Rattle.ds_machine.proofs.Wakes.{settle_leaves}

@@ -1,12 +1,11 @@
-use Rattle.ds_machine.proofs.Words.{ℕ, zero, suc, ◌≡◌, ◌<◌, ◌≤◌, ◌+◌, ◌%◌, ◌^◌, if◌then◌else◌, Bool, true, false, List, [], ◌∷◌, length, Option, Some}
-use Rattle.ds_machine.proofs.Words.{None, refl, sym, ◌∙◌, ap, arith, none-some, Access, Fetch, MemoryMachine, Performed, Read, Write, perform, Stop}
-use Rattle.ds_machine.proofs.Words.{Arch, V4, V5, condition_of, Instr, Coprocessor, Swi, ThumbSwi, holds, Meaning, Outcome, carried_out, concluded}
-use Rattle.ds_machine.proofs.Words.{undefined_meaning, act, condition, meaning, skipped, RegisterState, Setting, executed_unless, executed_word}
-use Rattle.ds_machine.proofs.Words.{stop_of, swi_stop, equivalent, RefusesNoneInRam, operation_meaning, Operation, arm7, arm9, move_of, Moved}
-use Rattle.ds_machine.proofs.Words.{vectors_of, guarded_memory, NineReach, SevenReach, nine_memory, seven_memory, Waited, nine_wait, seven_wait}
-use Rattle.ds_machine.proofs.Words.{unless_refused, waiting, waits_of, nine_refusal, nine_written, nine_most, seven_most, waited_so, IsFree}
-use Rattle.ds_machine.proofs.Words.{FindsRoom, data_accesses, nine_executed}
-use Rattle.ds_map.proofs.Waiting.{performed_so, performed_waited, waits_most}
+use Rattle.ds_machine.proofs.Words.{Access, Arch, Bool, Coprocessor, Fetch, FindsRoom, Instr, IsFree, List, Meaning, MemoryMachine, Moved, NineReach}
+use Rattle.ds_machine.proofs.Words.{None, Operation, Option, Outcome, Performed, Read, RefusesNoneInRam, RegisterState, Setting, SevenReach, Some}
+use Rattle.ds_machine.proofs.Words.{Stop, Swi, ThumbSwi, V4, V5, Waited, Write, [], act, ap, arith, arm7, arm9, carried_out, concluded, condition}
+use Rattle.ds_machine.proofs.Words.{condition_of, data_accesses, equivalent, executed_unless, executed_word, false, guarded_memory, holds}
+use Rattle.ds_machine.proofs.Words.{if◌then◌else◌, length, meaning, move_of, nine_executed, nine_memory, nine_most, nine_refusal, nine_wait}
+use Rattle.ds_machine.proofs.Words.{nine_written, none-some, operation_meaning, perform, performed_so, performed_waited, refl, seven_memory}
+use Rattle.ds_machine.proofs.Words.{seven_most, seven_wait, skipped, stop_of, suc, swi_stop, sym, true, undefined_meaning, unless_refused, vectors_of}
+use Rattle.ds_machine.proofs.Words.{waited_so, waiting, waits_most, waits_of, zero, ℕ, ◌%◌, ◌+◌, ◌<◌, ◌^◌, ◌∙◌, ◌∷◌, ◌≡◌, ◌≤◌}
 use Rattle.ds_machine.proofs.FewAccesses.{instructions_are_short, operations_are_short}
 use Rattle.ds_machine.proofs.GuardedSteps.{guarded_refuses_none, same_executed, same_operation, unguarded}
 use Rattle.ds_machine.proofs.RamAccesses.{seven_refuses_none}

@@ -1,16 +1,14 @@
-use Rattle.ds_machine.proofs.Words.{◌&&◌, ◌≡◌, ◌+◌, inl, inr, Bool, true, false, if◌then◌else◌, refl, sym, ◌∙◌, ap, subst, arith, AreKeyLines}
-use Rattle.ds_machine.proofs.Words.{Reschedules, Proc, Nine, Seven, Tick, other_proc, IsIo, IsProcessorIo, ReschedulesEach, DmaState, awaits_geometry}
-use Rattle.ds_machine.proofs.Words.{dma_due, awaits_none, ProcessorIoState, processor_io_triggered, IoState, io_of, is_settled, level_told}
-use Rattle.ds_machine.proofs.Words.{release_by, release_kept, release_of, settled, due_unless, keys_due, processor_due, AreAsleep, HasSoundParts}
-use Rattle.ds_machine.proofs.Words.{MachineState, ProcessorState, counts_of, due_past_unit, ended, goes_on, is_blocked, is_halted, machine_settled}
-use Rattle.ds_machine.proofs.Words.{processor_of, wakes, with_halt, with_processor, woken, woken_one, AreWaiting, is_half_empty, is_stalled, of_both}
-use Rattle.ds_machine.proofs.Words.{processor_io_is, io_is, happens_held}
+use Rattle.ds_machine.proofs.Words.{AreAsleep, AreKeyLines, AreWaiting, Bool, DmaState, HasSoundParts, IoState, IsIo, IsProcessorIo, MachineState}
+use Rattle.ds_machine.proofs.Words.{Nine, Proc, ProcessorIoState, ProcessorState, Reschedules, ReschedulesEach, Seven, Tick, ap, arith}
+use Rattle.ds_machine.proofs.Words.{awaits_geometry, awaits_none, counts_of, dma_due, due_past_unit, due_unless, ended, false, goes_on, happens_held}
+use Rattle.ds_machine.proofs.Words.{if◌then◌else◌, inl, inr, io_of, is_blocked, is_half_empty, is_halted, is_settled, is_stalled, keys_due}
+use Rattle.ds_machine.proofs.Words.{level_told, machine_settled, of_both, other_proc, processor_due, processor_io_is, processor_io_triggered}
+use Rattle.ds_machine.proofs.Words.{processor_of, refl, release_by, release_kept, release_of, settled, settled_happens, settles, subst, sym, true}
+use Rattle.ds_machine.proofs.Words.{wakes, with_halt, with_halted, with_processor, woken, woken_one, ◌&&◌, ◌+◌, ◌∙◌, ◌≡◌}
+use Rattle.ds_ports.proofs.Later.{io_is, each_processor_io, processor_io_each, same_reschedules}
 use Rattle.ds_dma.specs.declared.controls.Cause.TheVariants as causes
-use Rattle.ds_ports.specs.Io.{with_halted}
 use Rattle.ds_machine.proofs.Ticks.{after_unit}
 use Rattle.ds_machine.proofs.Moves.{Moves, blocked_moves, later_unless, moves_of, then_all}
-use Rattle.ds_ports.proofs.Later.{each_processor_io, processor_io_each, same_reschedules}
-use Rattle.ds_ports.proofs.Settles.{settled_happens, settles}
 
 -- Processors that are put into the machine with other numbers, that are halted, and that wake.
 

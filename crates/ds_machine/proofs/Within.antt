@@ -1,13 +1,11 @@
-use Rattle.ds_machine.proofs.Words.{ℕ, zero, suc, ◌≡◌, ◌<◌, ◌≤◌, List, Option, Some, None, refl, sym, ◌∙◌, ap, subst, arith, LeftOut, Proc, Nine}
-use Rattle.ds_machine.proofs.Words.{Seven, Tick, card_due, CardPasses, channel_at, last_tick, IoState, io_at_boot, io_of, IsBy, IsPastBy, IsSoonBy}
-use Rattle.ds_machine.proofs.Words.{processor_io_is, actor_of, At, Ending, IsLeast, MachineStep, Makes, Runs, over, stops, more, KeyScript, Geometry}
-use Rattle.ds_machine.proofs.Words.{timer_at, numbers_at_boot, scans_follow, HasShortRun, run_of, Shown, dues_of, reference, reference_step, step_by}
-use Rattle.ds_machine.proofs.Words.{HasSoundParts, MachineState, left_by, HasItsTransfer, IsWithinTick, GxState}
-use Rattle.ds_dma.specs.States.{dma_at_boot}
+use Rattle.ds_machine.proofs.Words.{At, CardPasses, Ending, Geometry, GxState, HasItsTransfer, HasShortRun, HasSoundParts, IoState, IsBy, IsLeast}
+use Rattle.ds_machine.proofs.Words.{IsPastBy, IsSoonBy, IsWithinTick, KeyScript, LeftOut, List, MachineState, MachineStep, Makes, Nine, None, Option}
+use Rattle.ds_machine.proofs.Words.{Proc, Runs, Seven, Shown, Some, Tick, actor_of, ap, arith, card_due, channel_at, dma_at_boot, dues_of, io_at_boot}
+use Rattle.ds_machine.proofs.Words.{io_of, last_tick, left_by, more, numbers_at_boot, over, processor_io_is, reference, reference_step, refl, run_of}
+use Rattle.ds_machine.proofs.Words.{scans_follow, step_by, stops, subst, suc, sym, timer_at, timers_at_boot, zero, ℕ, ◌<◌, ◌∙◌, ◌≡◌, ◌≤◌}
 use Rattle.ds_ports.specs.WithinLaws.{AreWithinTick, OwnIsWithinTick}
 use Rattle.ds_runs.specs.Runs as runs
 use Rattle.ds_runs.specs.declared.actors.Actor as actor
-use Rattle.ds_timers.specs.Timing.{timers_at_boot}
 use Rattle.video2d.proofs.VideoLaws.{stays_video}
 use Rattle.ds_machine.specs.WithinLaws.{BootsWithinTick, RunsStayWithinTick, TicksRise}
 use Rattle.ds_machine.proofs.Booting.{booted_due}

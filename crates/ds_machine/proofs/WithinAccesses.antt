@@ -1,14 +1,13 @@
-use Rattle.ds_machine.proofs.Words.{ℕ, ◌<◌, ◌≤◌, true, false, Option, Some, None, refl, sym, subst, ◌&&◌, IsSome, either, aligned_down, Stop, Vram}
-use Rattle.ds_machine.proofs.Words.{Width, Proc, Nine, Seven, Tick, RegisterState, Instr, arm7, arm9, move_of, Moved, tcm_of, Tcm, Itcm, Dtcm, Past}
-use Rattle.ds_machine.proofs.Words.{DmaState, dma_due, after_read_at, is_byte_of_nine, map_read, map_value, map_written, takes_no_bytes, written_at}
-use Rattle.ds_machine.proofs.Words.{MapState, map_after_unit, unit_read, unit_taken, unit_waits, NineReach, SevenReach, nine_memory, seven_memory}
-use Rattle.ds_machine.proofs.Words.{tcm_read, tcm_written, unit_waits_most, place_of, Place, IoState, io_of, port_refusal, port_written}
-use Rattle.ds_machine.proofs.Words.{unless_stopped, Stays, map_read_leaves, vram_written, nine_side, seven_side, nine_executed, MachineState, line_of}
-use Rattle.ds_machine.proofs.Words.{nine_reach, outcome_of, seven_reach}
-use Rattle.ds_dma.specs.declared.channels.Unit.{Unit as DmaUnit}
+use Rattle.ds_machine.proofs.Words.{DmaState, DmaUnit, Dtcm, Instr, IoState, IsSome, Itcm, MachineState, MapState, Moved, Nine, NineReach, None}
+use Rattle.ds_machine.proofs.Words.{Option, Past, Place, Proc, RegisterState, Seven, SevenReach, Some, Stop, Tcm, Tick, Vram, Width, after_read_at}
+use Rattle.ds_machine.proofs.Words.{aligned_down, arm7, arm9, dma_due, either, false, io_of, is_byte_of_nine, line_of, map_after_unit, map_read}
+use Rattle.ds_machine.proofs.Words.{map_read_leaves, map_value, map_written, move_of, nine_executed, nine_memory, nine_reach, nine_side, outcome_of}
+use Rattle.ds_machine.proofs.Words.{place_of, refl, seven_memory, seven_reach, seven_side, subst, sym, takes_no_bytes, tcm_of, tcm_read, tcm_written}
+use Rattle.ds_machine.proofs.Words.{true, unit_read, unit_taken, unit_waits, unit_waits_most, vram_written, written_at, ℕ, ◌&&◌, ◌<◌, ◌≤◌}
+use Rattle.ds_ports.specs.Ports.{port_refusal, port_written, unless_stopped}
+use Rattle.ds_ports.proofs.WithinPorts.{Stays, beside_all, read_stays, write_stays}
 use Rattle.ds_places.specs.declared.kinds.Place.TheVariants as place
 use Rattle.ds_ports.proofs.WithinEvents.{move_stays}
-use Rattle.ds_ports.proofs.WithinPorts.{beside_all, read_stays, write_stays}
 use Rattle.ds_machine.proofs.Keeps.{Follows, taken_follows, word_follows}
 
 -- What a processor's step, or a unit of DMA, makes of the units below a limit keeps them within it.

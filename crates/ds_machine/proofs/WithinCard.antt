@@ -1,12 +1,9 @@
-use Rattle.ds_machine.proofs.Words.{ℕ, zero, suc, ◌≡◌, ◌⊎◌, ◌<◌, inl, inr, List, Option, Some, None, refl, sym, ap, subst, arith, is_some, IfSome}
-use Rattle.ds_machine.proofs.Words.{either, aligned_down, Proc, Nine, Seven, Tick, CardState, start_refusal, CardHappens, CardPasses, came, was_read}
-use Rattle.ds_machine.proofs.Words.{wrote, passed_none, passed_one, HasItsTransfer}
-use Rattle.ds_card.specs.CardPorts.{block_words}
+use Rattle.ds_machine.proofs.Words.{CardHappens, CardPasses, CardState, HasItsTransfer, HasItsWord, HasWordsLeft, IfSome, List, Nine, None, Option}
+use Rattle.ds_machine.proofs.Words.{Proc, Seven, Some, Tick, aligned_down, ap, arith, block_words, came, either, inl, inr, is_some, passed_none}
+use Rattle.ds_machine.proofs.Words.{passed_one, refl, start_refusal, subst, suc, sym, was_read, wrote, zero, ℕ, ◌<◌, ◌≡◌, ◌⊎◌}
 use Rattle.ds_card.specs.Cards.{card_taken, card_word, is_starting, ports_written, ready_word, transfer_begun}
-use Rattle.ds_card.specs.Saved.{HasItsWord}
 use Rattle.ds_card.specs.declared.cards.Transfer.{Transfer}
 use Rattle.ds_card.proofs.InOrder.{Stands, StandsIn, one_follows}
-use Rattle.ds_machine.specs.WithinLaws.{HasWordsLeft}
 
 -- Whatever happens to a card, a word of its transfer that is ready stays the file's.
 

@@ -1,12 +1,10 @@
-use Rattle.ds_machine.proofs.Words.{ℕ, ◌≡◌, ◌<◌, ◌≤◌, ◌+◌, nat_lt, Bool, true, false, if◌then◌else◌, List, [], ◌∷◌, Some, refl, sym, ◌∙◌, ap, arith}
-use Rattle.ds_machine.proofs.Words.{same_Some, if_false, if_true, AreKeyLines, KeyLine, LeftOut, Proc, Nine, Seven, Tick, same_makes, actor_of, At}
-use Rattle.ds_machine.proofs.Words.{Ending, MachineStep, Makes, Runs, over, stops, more, KeyScript, Timer, Dma, Processor, Shown, after_line}
-use Rattle.ds_machine.proofs.Words.{keys_due, reference, reference_step, step_by, script_from, HasSoundParts, MachineState, left_by, ended, goes_on}
-use Rattle.ds_machine.proofs.Words.{machine_settled, wakes, woken_one, machine_graft, unchanged_by}
+use Rattle.ds_machine.proofs.Words.{AreKeyLines, At, Bool, Dma, Ending, HasSoundParts, KeyLine, KeyScript, LeftOut, List, MachineState, MachineStep}
+use Rattle.ds_machine.proofs.Words.{Makes, Nine, Proc, Processor, Runs, RunsKeepScript, Seven, Shown, Some, Tick, Timer, [], actor_of, after_line, ap}
+use Rattle.ds_machine.proofs.Words.{arith, due_of_rank, ended, false, goes_on, if_false, if_true, if◌then◌else◌, keys_due, left_by, machine_graft}
+use Rattle.ds_machine.proofs.Words.{machine_settled, more, nat_lt, over, reference, reference_step, refl, same_Some, same_makes, script_from, step_by}
+use Rattle.ds_machine.proofs.Words.{stops, sym, true, unchanged_by, wakes, woken_one, ℕ, ◌+◌, ◌<◌, ◌∙◌, ◌∷◌, ◌≡◌, ◌≤◌}
 use Rattle.ds_runs.specs.Runs as runs
 use Rattle.ds_runs.specs.declared.actors.Actor as actor
-use Rattle.ds_machine.specs.WithinLaws.{RunsKeepScript}
-use Rattle.ds_machine.proofs.DueTicks.{due_of_rank}
 use Rattle.ds_machine.proofs.MachineSchedule.{Steps, owes_as, step_made_as, steps_here}
 use Rattle.ds_machine.proofs.Touched.{each_touches}
 

@@ -1,17 +1,17 @@
-use Rattle.ds_machine.proofs.Words.{ℕ, ◌≡◌, ◌<◌, ◌≤◌, ◌+◌, ◌==◌, ◌^◌, nat_le, max, Bool, true, false, if◌then◌else◌, List, [], ◌∷◌, Option, Some}
-use Rattle.ds_machine.proofs.Words.{None, option_map, refl, sym, ◌∙◌, ap, subst, arith, ◌&&◌, not, le-max_right, none-some, same_Some, either, KeyLine, Proc}
-use Rattle.ds_machine.proofs.Words.{Nine, Seven, Tick, Cost, Halted, Left, after_both, DmaState, channel_at, channel_due, last_tick, least_running}
-use Rattle.ds_machine.proofs.Words.{LastUnit, other_proc, map_after_unit, next_unit, held_due, io_due, IoState, io_of, stall_ends, tick_after}
-use Rattle.ds_machine.proofs.Words.{video_done, IsPastBy, of_both, Stays, same_makes, Makes, KeyScript, Video, Geometry, Dma, Processor, is_stalled}
-use Rattle.ds_machine.proofs.Words.{scan_due, scan_due_tick, starts_vblank, video_stop, channel_step, one_event, past_tick, Shown, after_event}
-use Rattle.ds_machine.proofs.Words.{after_geometry, after_line, after_video, step_by, swapped_if, MachineState, ProcessorState, due_past_unit, ended}
-use Rattle.ds_machine.proofs.Words.{gone_by, goes_on, is_blocked, is_halted, machine_settled, map_of, past_unit, processor_of, tick_of, wakes}
-use Rattle.ds_machine.proofs.Words.{with_map, with_processor, woken_one}
+use Rattle.ds_machine.proofs.Words.{Bool, Cost, Dma, DmaState, Geometry, Halted, IoState, IsPastBy, KeyLine, KeyScript, LastUnit, Left, List}
+use Rattle.ds_machine.proofs.Words.{MachineState, Makes, Nine, None, Option, Proc, Processor, ProcessorState, Seven, Shown, Some, Tick, Video, []}
+use Rattle.ds_machine.proofs.Words.{after_both, after_event, after_geometry, after_line, after_video, ap, arith, channel_at, channel_due}
+use Rattle.ds_machine.proofs.Words.{channel_step, due_past_unit, due_then, either, ended, false, goes_on, gone_by, held_due, if◌then◌else◌, io_due}
+use Rattle.ds_machine.proofs.Words.{io_of, is_blocked, is_halted, is_stalled, last_tick, le-max_right, least_running, machine_settled, map_after_unit}
+use Rattle.ds_machine.proofs.Words.{map_of, max, nat_le, next_unit, none-some, not, of_both, one_event, option_map, other_proc, past_tick, past_unit}
+use Rattle.ds_machine.proofs.Words.{processor_of, refl, same_Some, same_makes, scan_due, scan_due_tick, scan_line_start, stall_ends, starts_vblank}
+use Rattle.ds_machine.proofs.Words.{step_by, subst, swapped_if, sym, tick_after, tick_of, true, video_done, video_stop, wakes, with_map}
+use Rattle.ds_machine.proofs.Words.{with_processor, woken_one, ℕ, ◌&&◌, ◌+◌, ◌<◌, ◌==◌, ◌^◌, ◌∙◌, ◌∷◌, ◌≡◌, ◌≤◌}
+use Rattle.ds_ports.proofs.WithinPorts.{Stays}
 use Rattle.arm_core.specs.declared.outcomes.Stepped as arm
 use Rattle.ds_dma.specs.States.{WaitsBriefly}
 use Rattle.ds_ports.proofs.WithinEvents.{event_stays, geometry_stays, halt_stays, keys_stay, settle_stays, show_stays, swap_stays}
 use Rattle.ds_runs.specs.declared.actors.Actor as actor
-use Rattle.video2d.specs.Scans.{scan_line_start}
 use Rattle.ds_machine.proofs.ChannelEvents.{channel_is_due, channel_made, machine_after_unit, map_processor}
 use Rattle.ds_machine.proofs.Halting.{event_due, gone_other, unit_other_due}
 use Rattle.ds_machine.proofs.MachineSchedule.{Steps}
@@ -20,7 +20,6 @@ use Rattle.ds_machine.proofs.ProcessorSteps.{Took, came_by, concludes, costs_som
 use Rattle.ds_machine.proofs.VideoEvents.{video_makes}
 use Rattle.ds_machine.proofs.Wakes.{put_beside}
 use Rattle.ds_machine.proofs.WithinAccesses.{step_stays, unit_stays}
-use Rattle.ds_machine.proofs.DueTicks.{due_then}
 
 -- Each step at a tick below a limit keeps the units within it, and each processor due soon after it.
 

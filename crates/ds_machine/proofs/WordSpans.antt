@@ -1,5 +1,5 @@
-use Rattle.ds_machine.proofs.Words.{ℕ, suc, ◌≡◌, ◌<◌, ◌+◌, ◌-◌, ◌*◌, ◌/◌, ◌%◌, ◌^◌, Bool, true, false, refl, sym, ◌∙◌, ap, arith, ◌&&◌, list_all}
-use Rattle.ds_machine.proofs.Words.{Proc, Nine, Seven, span, MachineState, nine_reach, seven_reach, tick_of, is_private_to}
+use Rattle.ds_machine.proofs.Words.{Bool, MachineState, Nine, Proc, Seven, ap, arith, false, is_private_to, list_all, nine_reach, refl, seven_reach}
+use Rattle.ds_machine.proofs.Words.{span, suc, sym, tick_of, true, ℕ, ◌%◌, ◌&&◌, ◌*◌, ◌+◌, ◌-◌, ◌/◌, ◌<◌, ◌^◌, ◌∙◌, ◌≡◌}
 use Rattle.ds_machine.proofs.PlacesByWords.{nine_by_words, seven_by_words}
 
 -- A span of whole words is asked word by word, where the four bytes of each answer the same.

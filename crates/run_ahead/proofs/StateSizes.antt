@@ -1,6 +1,6 @@
 use Rattle.run_ahead.proofs.Words.{Bool, ConsoleState, KeyLine, Left, List, Nine, None, Ok, Option, Proc, Seven, Some, [], and_parts, ap, arith}
-use Rattle.run_ahead.proofs.Words.{false, head_format, length, list_all, map, nat_le, not, read_format, rules, subst, suc, sym, true, zero, ℕ, ◌&&◌}
-use Rattle.run_ahead.proofs.Words.{◌*◌, ◌+◌, ◌-◌, ◌==◌, ◌>>=◌, ◌||◌, ◌∙◌, ◌∷◌, ◌≡◌, ◌≤◌}
+use Rattle.run_ahead.proofs.Words.{false, head_format, length, list_all, map, most_entries, nat_le, not, read_format, rules, subst, suc, sym, true}
+use Rattle.run_ahead.proofs.Words.{zero, ℕ, ◌&&◌, ◌*◌, ◌+◌, ◌-◌, ◌==◌, ◌>>=◌, ◌||◌, ◌∙◌, ◌∷◌, ◌≡◌, ◌≤◌}
 use Rattle.ds_state.specs.Formats.{Format, done, then_field, then_part, list, code_width, word_format, signed_format}
 use Rattle.run_ahead.specs.Saved.{console_of, format_behind, read_console, read_state, StatesAreShort}
 use Rattle.arm_core.specs.Saved.{registers_format}
@@ -16,7 +16,6 @@ use Rattle.ds_ipc.specs.Saved.{ipc_format, side_format}
 use Rattle.ds_math.specs.Saved.{divider_format, root_format}
 use Rattle.ds_timers.specs.Saved.{irq_format_by, timer_format, timers_format}
 use Rattle.ds_machine.specs.Saved.{machine_format, saved_size}
-use Rattle.gx_fifo.specs.Entries.{most_entries}
 use Rattle.gx_fifo.specs.Saved.{count_by, entry_format, gx_format_by}
 use Rattle.gx_geometry.specs.Saved.{geometry_format, holds_recent, light_format, lists_format, place_of_number, polygon_format, unless_none, vertex_format}
 use Rattle.gx_geometry.specs.Bounds.{is_place}

@@ -42,6 +42,7 @@ pub use Rattle.ds_runs.specs.Runs.{At, Ending, IsLeast, IsOver, MachineStep, Mak
 pub use Rattle.ds_runs.specs.ScheduleLaws.{places_remaining}
 pub use Rattle.ds_state.specs.Reading.{Left, ReadAnswer, read_format, ◌>>=◌}
 pub use Rattle.ds_state.specs.declared.unpacker.Unpacked.{Unpacked}
+pub use Rattle.gx_fifo.specs.Entries.{most_entries}
 pub use Rattle.run_ahead.specs.Consoles.{AreWithin, ConsoleState, open_of}
 unfoldable pub use Rattle.run_ahead.specs.Heads.{head_format}
 pub use Rattle.run_ahead.specs.Inside.{AreAtOnce, TookStretch, TookTurn}

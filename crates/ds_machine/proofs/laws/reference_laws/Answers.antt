@@ -1,6 +1,4 @@
-use Rattle.ds_runs.proofs.RunLaws.{runs_join, runs_are_one}
-use Rattle.ds_machine.proofs.Words.{run_exists, reference, HasSoundParts}
-use Rattle.ds_runs.proofs.RunExists.{run_ends}
+use Rattle.ds_machine.proofs.Words.{HasSoundParts, reference, run_ends, run_exists, runs_are_one, runs_join}
 use Rattle.ds_machine.proofs.MachineSchedule.{reference_schedules}
 use Rattle.ds_machine.proofs.laws.reference_laws.Goals as goal
 

@@ -1,4 +1,4 @@
-use Rattle.std.proofs.Common.{sym, arith}
+use Rattle.ds_machine.proofs.Words.{arith, sym}
 use Rattle.ds_machine.proofs.PlacesByWords.{shown_private}
 use Rattle.ds_machine.proofs.sides.is_private_past.Goals as goal
 

@@ -1,6 +1,4 @@
-use Rattle.std.proofs.Common.{◌≡◌, ◌<◌, ◌+◌, ◌*◌, ◌%◌, ◌^◌, false, true, subst}
-use Rattle.std.specs.Prelude.{ℕ, not, count_ones}
-use Rattle.arm_ops.specs.Operations.{HasOp}
+use Rattle.ds_machine.proofs.Words.{HasOp, count_ones, false, not, subst, true, ℕ, ◌%◌, ◌*◌, ◌+◌, ◌<◌, ◌^◌, ◌≡◌}
 use Rattle.ds_machine.proofs.DecodedStays.{reach_list}
 use Rattle.ds_machine.proofs.steps.list_stays.Goals as goal
 

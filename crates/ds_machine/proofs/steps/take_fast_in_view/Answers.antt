@@ -1,5 +1,5 @@
-use Rattle.ds_machine.proofs.Words.{ℕ, ◌≡◌, ◌+◌, ◌∙◌, Bool, true, false, true≢false, refl, sym, ap, Outcome, enters, is_other, not-true, DataStays}
-use Rattle.ds_machine.proofs.Words.{data_waits}
+use Rattle.ds_machine.proofs.Words.{Bool, DataStays, Outcome, ap, data_waits, enters, false, is_other, not-true, refl, sym, true, true≢false, ℕ, ◌+◌}
+use Rattle.ds_machine.proofs.Words.{◌∙◌, ◌≡◌}
 use Rattle.ds_machine.specs.declared.steps.Fast.{Fast}
 use Rattle.ds_machine.proofs.DecodedStays.{leaves_known, reach_told, stays_known}
 use Rattle.ds_machine.proofs.NearUnobserved.{near_known}

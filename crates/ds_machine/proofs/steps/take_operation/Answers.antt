@@ -1,4 +1,4 @@
-use Rattle.ds_machine.proofs.Words.{◌∙◌, sym, ap, Outcome, run_is_decoded}
+use Rattle.ds_machine.proofs.Words.{Outcome, ap, run_is_decoded, sym, ◌∙◌}
 use Rattle.ds_machine.proofs.Taken.{decoded_waits, taken_operation}
 use Rattle.ds_machine.proofs.steps.take_operation.Goals as goal
 

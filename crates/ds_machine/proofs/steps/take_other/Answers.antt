@@ -1,4 +1,4 @@
-use Rattle.ds_machine.proofs.Words.{Option, ◌∙◌, sym, ap, Instr, waits_of, data_accesses, Outcome}
+use Rattle.ds_machine.proofs.Words.{Instr, Option, Outcome, ap, data_accesses, sym, waits_of, ◌∙◌}
 use Rattle.ds_machine.proofs.Taken.{taken_executed}
 use Rattle.ds_machine.proofs.steps.take_other.Goals as goal
 

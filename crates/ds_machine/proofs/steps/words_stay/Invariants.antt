@@ -1,4 +1,4 @@
-use Rattle.std.proofs.Common.{ℕ, ◌≡◌, ◌<◌, ◌+◌, ◌*◌, ◌%◌, ◌^◌, false, true}
+use Rattle.ds_machine.proofs.Words.{false, true, ℕ, ◌%◌, ◌*◌, ◌+◌, ◌<◌, ◌^◌, ◌≡◌}
 use Rattle.ds_machine.proofs.steps.words_stay.Given as goal
 
 -- all words so far are private

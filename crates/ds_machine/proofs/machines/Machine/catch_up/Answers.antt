@@ -1,4 +1,4 @@
-use Rattle.ds_machine.proofs.Words.{◌∙◌, sym, subst, arith, IsRunning, last_limit, CatchesUp, ComesBeforeAll, MachineState}
+use Rattle.ds_machine.proofs.Words.{CatchesUp, ComesBeforeAll, IsRunning, MachineState, arith, last_limit, subst, sym, ◌∙◌}
 use Rattle.ds_machine.proofs.CatchingUp.{caught_statuses, level_caught}
 use Rattle.ds_machine.proofs.Running.{running_taken}
 use Rattle.ds_machine.proofs.machines.Machine.catch_up.Goals as goal

@@ -1,4 +1,4 @@
-use Rattle.ds_machine.proofs.Words.{sym, subst, arith, actor_of, IsRunning, last_limit, observes_by, MachineState, MayAct}
+use Rattle.ds_machine.proofs.Words.{IsRunning, MachineState, MayAct, actor_of, arith, last_limit, observes_by, subst, sym}
 use Rattle.ds_machine.proofs.CatchingUp.{caught_for, caught_statuses}
 use Rattle.ds_machine.proofs.Running.{running_before}
 use Rattle.ds_machine.proofs.machines.Machine.catch_up_before.Goals as goal

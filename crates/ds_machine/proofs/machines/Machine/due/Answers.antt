@@ -1,6 +1,4 @@
-use Rattle.ds_machine.proofs.Words.{refl, subst, MachineState}
-use Rattle.ds_machine.specs.StepAnswers.{IsDue}
-use Rattle.ds_machine.proofs.DueTicks.{first_found}
+use Rattle.ds_machine.proofs.Words.{IsDue, MachineState, first_found, refl, subst}
 use Rattle.ds_machine.proofs.machines.Machine.due.Goals as goal
 
 pub returns : goal.returns

@@ -1,6 +1,5 @@
-use Rattle.ds_machine.proofs.Words.{◌∙◌, sym, ap, due_at, due_by, dues_of, MachineState}
+use Rattle.ds_machine.proofs.Words.{MachineState, ap, due_at, due_by, due_of_rank, dues_of, sym, ◌∙◌}
 use Rattle.ds_runs.specs.declared.actors.Actor as actor
-use Rattle.ds_machine.proofs.DueTicks.{due_of_rank}
 use Rattle.ds_machine.proofs.machines.Machine.due_of.Goals as goal
 
 pub returns : goal.returns

@@ -1,4 +1,4 @@
-use Rattle.ds_machine.proofs.Words.{subst, MachineState, HasEnds, Ends}
+use Rattle.ds_machine.proofs.Words.{Ends, HasEnds, MachineState, subst}
 use Rattle.ds_machine.proofs.EndTicks.{ends_kept}
 use Rattle.ds_machine.proofs.machines.Machine.ends.Goals as goal
 

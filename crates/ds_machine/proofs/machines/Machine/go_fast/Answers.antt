@@ -1,6 +1,5 @@
-use Rattle.ds_machine.proofs.Words.{sym, ◌∙◌, ap, subst, other_proc, MachineState, TakesSteps, IsRunning, last_limit}
-use Rattle.ds_machine.proofs.Words.{HasLimit, IsTurnEnd, due_or_never}
-use Rattle.std.specs.Prelude.{◌<◌}
+use Rattle.ds_machine.proofs.Words.{HasLimit, IsRunning, MachineState, TakesSteps, ap, last_limit, other_proc, subst, sym, ◌<◌, ◌∙◌}
+use Rattle.ds_machine.specs.TurnLaws.{IsTurnEnd, due_or_never}
 use Rattle.ds_machine.proofs.EndTicks.{other_never}
 use Rattle.ds_machine.proofs.FastSteps.{kept_stays}
 use Rattle.ds_machine.proofs.FastTurns.{leaves_others}

@@ -1,4 +1,4 @@
-use Rattle.ds_machine.proofs.Words.{subst, arith, MachineState, HasLimit}
+use Rattle.ds_machine.proofs.Words.{HasLimit, MachineState, arith, subst}
 use Rattle.ds_machine.proofs.EndTicks.{limit_so}
 use Rattle.ds_machine.proofs.machines.Machine.limit_of.Goals as goal
 

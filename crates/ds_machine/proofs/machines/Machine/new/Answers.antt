@@ -1,4 +1,4 @@
-use Rattle.ds_machine.proofs.Words.{sym, subst, with_file, HasBothStatuses}
+use Rattle.ds_machine.proofs.Words.{HasBothStatuses, subst, sym, with_file}
 use Rattle.ds_machine.proofs.Booting.{running_booted}
 use Rattle.ds_machine.proofs.Files.{parts_put, statuses_put}
 use Rattle.ds_machine.proofs.Statuses.{boots_with_statuses}

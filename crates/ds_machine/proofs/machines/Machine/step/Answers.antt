@@ -1,4 +1,5 @@
-use Rattle.ds_machine.proofs.Words.{ℕ, List, sym, subst, IsRunning, last_limit, MachineState, with_file, Steps, MayStep}
+use Rattle.ds_machine.proofs.Words.{IsRunning, List, MachineState, MayStep, last_limit, subst, sym, with_file, ℕ}
+use Rattle.ds_machine.specs.StepAnswers.{Steps}
 use Rattle.ds_machine.proofs.Files.{may_step_put}
 use Rattle.ds_machine.proofs.Running.{runs_after}
 use Rattle.ds_machine.proofs.Statuses.{statuses_done}

@@ -1,4 +1,4 @@
-use Rattle.ds_machine.proofs.Words.{sym, subst, IsRunning, last_limit, MachineState, MayStep}
+use Rattle.ds_machine.proofs.Words.{IsRunning, MachineState, MayStep, last_limit, subst, sym}
 use Rattle.ds_machine.proofs.Running.{runs_after}
 use Rattle.ds_machine.proofs.Statuses.{statuses_done}
 use Rattle.ds_machine.proofs.machines.Machine.step_inserted.Goals as goal

@@ -1,4 +1,4 @@
-use Rattle.ds_machine.proofs.Words.{ℕ, sym, subst, IsRunning, last_limit, CatchesUpFor, rank_of, MachineState, done_of, MayAct}
+use Rattle.ds_machine.proofs.Words.{CatchesUpFor, IsRunning, MachineState, MayAct, done_of, last_limit, rank_of, subst, sym, ℕ}
 use Rattle.ds_machine.proofs.OwnTurns.{may_go}
 use Rattle.ds_machine.proofs.Running.{runs_after}
 use Rattle.ds_machine.proofs.Statuses.{statuses_done}

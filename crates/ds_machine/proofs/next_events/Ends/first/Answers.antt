@@ -1,4 +1,4 @@
-use Rattle.ds_machine.proofs.Words.{arith, Nine, Seven}
+use Rattle.ds_machine.proofs.Words.{Nine, Seven, arith}
 use Rattle.ds_machine.proofs.EndTicks.{first_in}
 use Rattle.ds_machine.proofs.next_events.Ends.first.Goals as goal
 

@@ -1,4 +1,4 @@
-use Rattle.std.proofs.Common.{refl}
+use Rattle.ds_machine.proofs.Words.{refl}
 use Rattle.ds_machine.proofs.ActingDues.{first_acting_found}
 use Rattle.ds_machine.proofs.parts.Parts.acting.Goals as goal
 

@@ -1,4 +1,4 @@
-use Rattle.ds_machine.proofs.Words.{◌∙◌, sym, arith, is_private_to}
+use Rattle.ds_machine.proofs.Words.{arith, is_private_to, sym, ◌∙◌}
 use Rattle.ds_machine.proofs.WordSpans.{private_by_word, word_ends, word_more}
 use Rattle.ds_machine.proofs.parts.Parts.are_words_private.Goals as goal
 

@@ -1,4 +1,4 @@
-use Rattle.ds_machine.proofs.Words.{◌≡◌, ◌+◌, ◌-◌, ◌*◌, list_all, span, is_private_to}
+use Rattle.ds_machine.proofs.Words.{is_private_to, list_all, span, ◌*◌, ◌+◌, ◌-◌, ◌≡◌}
 use Rattle.ds_machine.proofs.parts.Parts.are_words_private.Given as goal
 
 -- what is left, from here on, is private exactly where all is from the start

@@ -1,4 +1,4 @@
-use Rattle.ds_machine.proofs.Words.{◌<◌, refl, ap, arith, ProcessorState, processor_of}
+use Rattle.ds_machine.proofs.Words.{ProcessorState, ap, arith, processor_of, refl, ◌<◌}
 use Rattle.ds_machine.proofs.GoingSteps.{belongs_below}
 use Rattle.ds_machine.proofs.parts.Parts.belongs_by.Goals as goal
 

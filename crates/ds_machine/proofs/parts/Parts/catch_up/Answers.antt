@@ -1,4 +1,4 @@
-use Rattle.ds_machine.proofs.Words.{◌≤◌, ◌∙◌, inl, inr, sym, arith, run_of, more_geometry, no_geometry, last_limit}
+use Rattle.ds_machine.proofs.Words.{arith, inl, inr, last_limit, more_geometry, no_geometry, run_of, sym, ◌∙◌, ◌≤◌}
 use Rattle.ds_machine.proofs.CatchingUp.{behind_early, behind_is, caught_so, fewer_left}
 use Rattle.ds_machine.proofs.Running.{few_events, running_taken}
 use Rattle.ds_machine.proofs.parts.Parts.catch_up.Goals as goal

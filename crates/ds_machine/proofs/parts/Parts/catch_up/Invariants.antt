@@ -1,4 +1,4 @@
-use Rattle.ds_machine.proofs.Words.{◌+◌, TakesGeometry, ticks_left}
+use Rattle.ds_machine.proofs.Words.{TakesGeometry, ticks_left, ◌+◌}
 use Rattle.ds_machine.proofs.parts.Parts.catch_up.Given as goal
 
 abbrev pub invariant-steps : goal.invariant-steps

@@ -1,4 +1,4 @@
-use Rattle.std.proofs.Common.{◌∙◌, sym}
+use Rattle.ds_machine.proofs.Words.{sym, ◌∙◌}
 use Rattle.ds_machine.proofs.CatchingUp.{acts_due, level_for, observed_before, unseen_for}
 use Rattle.ds_machine.proofs.parts.Parts.catch_up_before.Goals as goal
 use Rattle.ds_machine.proofs.parts.Parts.catch_up_before.Goals.{then-not-is_behind-via-then-not-is_behind, then-not-is_behind-via-else-not-is_behind+then-not-observes}

@@ -1,5 +1,4 @@
-use Rattle.std.proofs.Common.{◌≡◌, ◌+◌, drop}
-use Rattle.ds_machine.specs.Boots.{copied}
+use Rattle.ds_machine.proofs.Words.{copied, drop, ◌+◌, ◌≡◌}
 use Rattle.ds_machine.proofs.parts.Parts.copy.Given as goal
 
 -- what is left, copied from here on, gives what all gives from the start

@@ -1,5 +1,4 @@
-use Rattle.ds_machine.proofs.Words.{ℕ, ◌≡◌, ◌≤◌, ◌+◌, List, length, take, arith, sym, ◌∙◌, ap, Nine, MachineState}
-use Rattle.std.proofs.lemmas.List.{length-take-le}
+use Rattle.ds_machine.proofs.Words.{List, MachineState, Nine, ap, arith, length, length-take-le, sym, take, ℕ, ◌+◌, ◌∙◌, ◌≡◌, ◌≤◌}
 use Rattle.ds_machine.proofs.Booting.{copied_io}
 use Rattle.ds_machine.proofs.parts.Parts.copy_header.Goals as goal
 

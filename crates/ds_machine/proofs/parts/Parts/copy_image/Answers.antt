@@ -1,4 +1,4 @@
-use Rattle.ds_machine.proofs.Words.{ℕ, ◌≤◌, ◌+◌, List, length, sym, ◌∙◌, ap, subst, MachineState}
+use Rattle.ds_machine.proofs.Words.{List, MachineState, ap, length, subst, sym, ℕ, ◌+◌, ◌∙◌, ◌≤◌}
 use Rattle.ds_machine.proofs.Booting.{copied_io, image_lies}
 use Rattle.ds_machine.proofs.parts.Parts.copy_image.Goals as goal
 

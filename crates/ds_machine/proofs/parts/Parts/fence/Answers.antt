@@ -1,4 +1,4 @@
-use Rattle.ds_machine.proofs.Words.{sym, subst, Proc, IsFence, Nine, Seven}
+use Rattle.ds_machine.proofs.Words.{IsFence, Nine, Proc, Seven, subst, sym}
 use Rattle.ds_machine.proofs.FenceFirsts.{fence_is}
 use Rattle.ds_machine.proofs.parts.Parts.fence.Goals as goal
 

@@ -1,5 +1,4 @@
-use Rattle.ds_machine.proofs.Words.{ℕ, ◌≡◌, ◌∙◌, Bool, true, ap, sym, subst, Fetch, next_fetch, ProcessorState, FetchStaysPrivate}
-use Rattle.std.proofs.Common.{◌↔◌}
+use Rattle.ds_machine.proofs.Words.{Bool, Fetch, FetchStaysPrivate, ProcessorState, ap, next_fetch, subst, sym, true, ℕ, ◌↔◌, ◌∙◌, ◌≡◌}
 use Rattle.ds_machine.proofs.PrivateTests.{fetch_stays}
 use Rattle.ds_machine.proofs.parts.Parts.fetch_stays_private.Goals as goal
 

@@ -1,5 +1,5 @@
-use Rattle.ds_machine.proofs.Words.{◌≡◌, ◌<◌, ◌^◌, ◌∙◌, true, false, sym, ap, subst, arith, true≢false, Proc, MachineState, ProcessorState, is_private_to}
-use Rattle.cp15_tcm.specs.TightlyCoupled.{IsMainPast}
+use Rattle.ds_machine.proofs.Words.{IsMainPast, MachineState, Proc, ProcessorState, ap, arith, false, is_private_to, subst, sym, true, true≢false}
+use Rattle.ds_machine.proofs.Words.{◌<◌, ◌^◌, ◌∙◌, ◌≡◌}
 use Rattle.ds_machine.proofs.GoingSteps.{fetched_then}
 use Rattle.ds_machine.proofs.PlacesByWords.{main_of_nine, main_of_seven}
 use Rattle.ds_machine.proofs.parts.Parts.fetches_main.Goals as goal

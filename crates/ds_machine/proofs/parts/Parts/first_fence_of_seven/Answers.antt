@@ -1,4 +1,4 @@
-use Rattle.ds_machine.proofs.Words.{sym, ap, MachineState}
+use Rattle.ds_machine.proofs.Words.{MachineState, ap, sym}
 use Rattle.ds_machine.proofs.FenceFirsts.{seven_by_parts}
 use Rattle.ds_machine.proofs.parts.Parts.first_fence_of_seven.Goals as goal
 

@@ -1,4 +1,4 @@
-use Rattle.ds_machine.proofs.Words.{◌∙◌, ap, sym, architecture_of, Proc, MachineState, processor_of}
+use Rattle.ds_machine.proofs.Words.{MachineState, Proc, ap, architecture_of, processor_of, sym, ◌∙◌}
 use Rattle.ds_machine.proofs.PrivateTests.{footprint_as}
 use Rattle.ds_machine.proofs.parts.Parts.footprint_of.Goals as goal
 

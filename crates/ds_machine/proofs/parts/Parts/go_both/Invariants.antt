@@ -1,5 +1,4 @@
-use Rattle.ds_machine.proofs.Words.{false, own_remaining}
-use Rattle.ds_machine.specs.NextEvents.{WentOn}
+use Rattle.ds_machine.proofs.Words.{WentOn, false, own_remaining}
 use Rattle.ds_machine.proofs.parts.Parts.go_both.Given as goal
 
 abbrev pub invariant-steps : goal.invariant-steps

@@ -1,5 +1,4 @@
-use Rattle.ds_machine.proofs.Words.{Bool, sym, subst}
-use Rattle.ds_machine.specs.NextEvents.{GoesFast, WentOn}
+use Rattle.ds_machine.proofs.Words.{Bool, GoesFast, WentOn, subst, sym}
 use Rattle.ds_machine.proofs.parts.Parts.go_fast.Goals as goal
 
 pub go_masked-requires-clause-goes : goal.go_masked-requires-clause-goes

@@ -1,4 +1,4 @@
-use Rattle.ds_machine.proofs.Words.{◌∙◌, true, sym, ap, arith, true≢false, ProcessorState}
+use Rattle.ds_machine.proofs.Words.{ProcessorState, ap, arith, sym, true, true≢false, ◌∙◌}
 use Rattle.ds_machine.proofs.FastTurns.{over_past, went_more, went_none, went_same}
 use Rattle.ds_machine.proofs.parts.Parts.go_masked.Goals as goal
 

@@ -1,5 +1,4 @@
-use Rattle.ds_machine.proofs.Words.{own_remaining, true}
-use Rattle.ds_machine.specs.NextEvents.{WentOn}
+use Rattle.ds_machine.proofs.Words.{WentOn, own_remaining, true}
 use Rattle.ds_machine.proofs.parts.Parts.go_masked.Given as goal
 
 abbrev pub invariant-steps : goal.invariant-steps

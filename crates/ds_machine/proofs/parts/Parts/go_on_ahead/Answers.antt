@@ -1,4 +1,4 @@
-use Rattle.ds_machine.proofs.Words.{ap, arith, false, MachineState, processor_of}
+use Rattle.ds_machine.proofs.Words.{MachineState, ap, arith, false, processor_of}
 use Rattle.ds_machine.proofs.FastTurns.{later, went_more, went_none, went_same}
 use Rattle.ds_machine.proofs.parts.Parts.go_on_ahead.Goals as goal
 

@@ -1,4 +1,4 @@
-use Rattle.std.proofs.Common.{◌∙◌, not, ap}
+use Rattle.ds_machine.proofs.Words.{ap, not, ◌∙◌}
 use Rattle.ds_machine.proofs.ObservedTests.{instr_observes_by}
 use Rattle.ds_machine.proofs.parts.Parts.instr_observes.Goals as goal
 

@@ -1,5 +1,4 @@
-use Rattle.ds_machine.proofs.Words.{◌≡◌, ◌∙◌, Bool, true, Some, ap, sym, subst, ◌&&◌, Arch, may_go_ahead, InstrStaysPrivate, data_private}
-use Rattle.std.proofs.Common.{◌↔◌}
+use Rattle.ds_machine.proofs.Words.{Arch, Bool, InstrStaysPrivate, Some, ap, data_private, may_go_ahead, subst, sym, true, ◌&&◌, ◌↔◌, ◌∙◌, ◌≡◌}
 use Rattle.ds_machine.proofs.PrivateTests.{instr_stays}
 use Rattle.ds_machine.proofs.parts.Parts.instr_stays_private.Goals as goal
 

@@ -1,4 +1,4 @@
-use Rattle.std.proofs.Common.{arith}
+use Rattle.ds_machine.proofs.Words.{arith}
 use Rattle.ds_machine.proofs.EndTicks.{below_end}
 use Rattle.ds_machine.proofs.parts.Parts.is_below_both.Goals as goal
 

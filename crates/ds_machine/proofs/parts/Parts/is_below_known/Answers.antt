@@ -1,4 +1,4 @@
-use Rattle.std.proofs.Common.{arith}
+use Rattle.ds_machine.proofs.Words.{arith}
 use Rattle.ds_machine.proofs.EndTicks.{below_kept}
 use Rattle.ds_machine.proofs.parts.Parts.is_below_known.Goals as goal
 

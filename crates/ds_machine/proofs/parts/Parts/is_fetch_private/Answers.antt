@@ -1,4 +1,4 @@
-use Rattle.ds_machine.proofs.Words.{◌<◌, ◌^◌, ◌∙◌, sym, ap, arith, ProcessorState}
+use Rattle.ds_machine.proofs.Words.{ProcessorState, ap, arith, sym, ◌<◌, ◌^◌, ◌∙◌}
 use Rattle.ds_machine.proofs.GoingSteps.{fetched_if, fetched_then}
 use Rattle.ds_machine.proofs.parts.Parts.is_fetch_private.Goals as goal
 

@@ -1,4 +1,4 @@
-use Rattle.std.proofs.Common.{◌≡◌, ◌∙◌, arith}
+use Rattle.ds_machine.proofs.Words.{arith, ◌∙◌, ◌≡◌}
 use Rattle.ds_machine.proofs.FenceFirsts.{least_where, rank_where}
 use Rattle.ds_machine.proofs.parts.Parts.is_first.Goals as goal
 

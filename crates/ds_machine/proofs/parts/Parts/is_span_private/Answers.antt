@@ -1,4 +1,4 @@
-use Rattle.ds_machine.proofs.Words.{◌∙◌, sym, arith, is_private_to}
+use Rattle.ds_machine.proofs.Words.{arith, is_private_to, sym, ◌∙◌}
 use Rattle.ds_machine.proofs.PrivateTests.{span_ends, span_more}
 use Rattle.ds_machine.proofs.parts.Parts.is_span_private.Goals as goal
 

@@ -1,5 +1,4 @@
-use Rattle.std.proofs.Common.{not, ◌∙◌, ap, sym, arith}
-use Rattle.ds_machine.specs.Observing.{is_unobserved_at}
+use Rattle.ds_machine.proofs.Words.{ap, arith, is_unobserved_at, not, sym, ◌∙◌}
 use Rattle.ds_machine.proofs.PrivateTests.{span_ends, span_more}
 use Rattle.ds_machine.proofs.parts.Parts.is_span_unobserved.Goals as goal
 

@@ -1,4 +1,4 @@
-use Rattle.ds_machine.proofs.Words.{◌≡◌, ◌+◌, ◌-◌, list_all, span, is_unobserved_at}
+use Rattle.ds_machine.proofs.Words.{is_unobserved_at, list_all, span, ◌+◌, ◌-◌, ◌≡◌}
 use Rattle.ds_machine.proofs.parts.Parts.is_span_unobserved.Given as goal
 
 -- what is left, from here on, has no observed port exactly where all has none from the start

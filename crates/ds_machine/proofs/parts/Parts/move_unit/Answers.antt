@@ -1,4 +1,4 @@
-use Rattle.ds_machine.proofs.Words.{◌∙◌, ap, unit_moved, MachineState, map_of, with_map, the_view, unreached_by}
+use Rattle.ds_machine.proofs.Words.{MachineState, ap, map_of, the_view, unit_moved, unreached_by, with_map, ◌∙◌}
 use Rattle.ds_machine.proofs.Reached.{left_map}
 use Rattle.ds_machine.proofs.parts.Parts.move_unit.Goals as goal
 

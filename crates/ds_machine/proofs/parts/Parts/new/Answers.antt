@@ -1,4 +1,4 @@
-use Rattle.ds_machine.proofs.Words.{◌∙◌, ap, Seven, with_header, with_image, MachineState, with_file}
+use Rattle.ds_machine.proofs.Words.{MachineState, Seven, ap, with_file, with_header, with_image, ◌∙◌}
 use Rattle.ds_machine.proofs.Booting.{booted_put}
 use Rattle.ds_machine.proofs.parts.Parts.new.Goals as goal
 

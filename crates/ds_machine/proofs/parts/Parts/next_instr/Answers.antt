@@ -1,4 +1,4 @@
-use Rattle.ds_machine.proofs.Words.{ℕ, ◌∙◌, ◌%◌, ◌^◌, ap, sym, Half, Word, Arch, decoded_arm, decoded_thumb, fetch_of, ProcessorState}
+use Rattle.ds_machine.proofs.Words.{Arch, Half, ProcessorState, Word, ap, decoded_arm, decoded_thumb, fetch_of, sym, ℕ, ◌%◌, ◌^◌, ◌∙◌}
 use Rattle.ds_machine.proofs.PrivateTests.{half_is, word_is}
 use Rattle.ds_machine.proofs.parts.Parts.next_instr.Goals as goal
 

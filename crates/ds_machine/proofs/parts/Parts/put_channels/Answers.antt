@@ -1,4 +1,4 @@
-use Rattle.ds_machine.proofs.Words.{rules, ◌≡◌, true, refl, Nine, Seven, dma_format_by, bytes_written, channels_format, dma_format, late_runs_by}
+use Rattle.ds_machine.proofs.Words.{Nine, Seven, bytes_written, channels_format, dma_format, dma_format_by, late_runs_by, refl, rules, true, ◌≡◌}
 use Rattle.std.proofs.lemmas.List.{map-id}
 use Rattle.ds_machine.proofs.SavedBytes.{dma_bytes}
 use Rattle.ds_machine.proofs.parts.Parts.put_channels.Goals as goal

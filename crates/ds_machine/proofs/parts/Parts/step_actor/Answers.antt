@@ -1,5 +1,4 @@
-use Rattle.ds_machine.proofs.Words.{◌≤◌, ◌^◌, Some, sym, ◌∙◌, subst, with_file, stepped_of, ProcessorState}
-use Rattle.ds_machine.proofs.DueTicks.{low_rank, may_due, may_early, steps_as}
+use Rattle.ds_machine.proofs.Words.{ProcessorState, Some, low_rank, may_due, may_early, stepped_of, steps_as, subst, sym, with_file, ◌^◌, ◌∙◌, ◌≤◌}
 use Rattle.ds_machine.proofs.Files.{due_put, own_put}
 use Rattle.ds_machine.proofs.Running.{few_events, few_steps, may_fit_run}
 use Rattle.ds_machine.proofs.parts.Parts.step_actor.Goals as goal

@@ -1,4 +1,4 @@
-use Rattle.ds_machine.proofs.Words.{ℕ, ◌<◌, inl, inr, false, refl, sym, ◌∙◌, ap, subst, arith, Cost, ProcessorState, tick_of}
+use Rattle.ds_machine.proofs.Words.{Cost, ProcessorState, ap, arith, false, inl, inr, refl, subst, sym, tick_of, ℕ, ◌<◌, ◌∙◌}
 use Rattle.arm_core.specs.declared.outcomes.Stepped as arm
 use Rattle.ds_machine.proofs.FastTurns.{is_due, over_at_end, over_past, went_fast}
 use Rattle.ds_machine.proofs.GoingSteps.{ahead_data, ahead_if, ahead_may}

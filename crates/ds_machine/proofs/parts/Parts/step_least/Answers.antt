@@ -1,4 +1,4 @@
-use Rattle.ds_machine.proofs.Words.{ℕ, ◌<◌, inl, sym, ◌∙◌, ap, subst, arith, Cost, ProcessorState, tick_of}
+use Rattle.ds_machine.proofs.Words.{Cost, ProcessorState, ap, arith, inl, subst, sym, tick_of, ℕ, ◌<◌, ◌∙◌}
 use Rattle.arm_core.specs.declared.outcomes.Stepped as arm
 use Rattle.ds_machine.proofs.FastTurns.{below_turn, least_now, went_fast}
 use Rattle.ds_machine.proofs.GuardedSteps.{free_for}

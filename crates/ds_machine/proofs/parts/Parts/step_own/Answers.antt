@@ -1,6 +1,5 @@
-use Rattle.ds_machine.proofs.Words.{ℕ, ◌≡◌, Some, sym, ◌∙◌, subst, Processor, awake, step_by, done_of, stepped_of}
+use Rattle.ds_machine.proofs.Words.{Processor, Some, awake, done_of, due_of_may, may_early, step_by, stepped_of, steps_as, subst, sym, ℕ, ◌∙◌, ◌≡◌}
 use Rattle.ds_machine.specs.Private as private
-use Rattle.ds_machine.proofs.DueTicks.{due_of_may, may_early, steps_as}
 use Rattle.ds_machine.proofs.GoingSteps.{actor_is}
 use Rattle.ds_machine.proofs.Running.{few_steps}
 use Rattle.ds_machine.proofs.parts.Parts.step_own.Goals as goal

@@ -1,5 +1,4 @@
-use Rattle.ds_machine.proofs.Words.{done_of, in_ticks}
-use Rattle.ds_machine.proofs.DueTicks.{own_tick}
+use Rattle.ds_machine.proofs.Words.{done_of, in_ticks, own_tick}
 use Rattle.ds_machine.proofs.ProcessorSteps.{reached_early, reached_few, step_concluded}
 use Rattle.ds_machine.proofs.parts.Parts.step_processor.Goals as goal
 

@@ -1,5 +1,4 @@
-use Rattle.ds_machine.proofs.Words.{sym, ◌∙◌, ap, same_Some, swapped_if, MachineState, ended, with_io, scan_due_tick}
-use Rattle.std.proofs.Common.{◌&&◌}
+use Rattle.ds_machine.proofs.Words.{MachineState, ap, ended, same_Some, scan_due_tick, swapped_if, sym, with_io, ◌&&◌, ◌∙◌}
 use Rattle.ds_machine.proofs.VideoEvents.{after_is, frame_made, line_made, line_stopped, swap_is}
 use Rattle.ds_machine.proofs.parts.Parts.step_video.Goals as goal
 

@@ -1,4 +1,4 @@
-use Rattle.ds_machine.proofs.Words.{◌∙◌, ap, stored, MachineState, the_view, unreached_by}
+use Rattle.ds_machine.proofs.Words.{MachineState, ap, stored, the_view, unreached_by, ◌∙◌}
 use Rattle.ds_machine.proofs.Reached.{left_map}
 use Rattle.ds_machine.proofs.parts.Parts.store.Goals as goal
 

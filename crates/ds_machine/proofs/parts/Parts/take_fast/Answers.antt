@@ -1,4 +1,4 @@
-use Rattle.ds_machine.proofs.Words.{sym, ◌∙◌, ap, Proc, Seven, unreached, MachineState, line_of, outcome_of, the_view}
+use Rattle.ds_machine.proofs.Words.{MachineState, Proc, Seven, ap, line_of, outcome_of, sym, the_view, unreached, ◌∙◌}
 use Rattle.ds_machine.proofs.Reached.{apart_of, seven_stood, seven_went}
 use Rattle.ds_machine.proofs.parts.Parts.take_fast.Goals as goal
 

@@ -1,4 +1,4 @@
-use Rattle.ds_machine.proofs.Words.{◌∙◌, Ok, slice_index, ap, sym, MachineState}
+use Rattle.ds_machine.proofs.Words.{MachineState, Ok, ap, slice_index, sym, ◌∙◌}
 use Rattle.ds_machine.proofs.SavedParts.{machine_reads}
 use Rattle.ds_machine.proofs.parts.Parts.unpack.Goals as goal
 

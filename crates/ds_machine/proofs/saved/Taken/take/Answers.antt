@@ -1,4 +1,4 @@
-use Rattle.ds_machine.proofs.Words.{rules, ◌≡◌, around_of, asked_of, is_late}
+use Rattle.ds_machine.proofs.Words.{around_of, asked_of, is_late, rules, ◌≡◌}
 use Rattle.ds_machine.proofs.SavedReads.{card_fails, fails_on, front_read, gx_fails, video_fails}
 use Rattle.ds_machine.proofs.saved.Taken.take.Goals as goal
 

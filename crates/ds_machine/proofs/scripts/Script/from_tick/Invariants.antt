@@ -1,4 +1,4 @@
-use Rattle.ds_machine.proofs.Words.{◌≡◌, length, script_from}
+use Rattle.ds_machine.proofs.Words.{length, script_from, ◌≡◌}
 use Rattle.ds_machine.proofs.scripts.Script.from_tick.Given as goal
 
 abbrev pub invariant-lines : goal.invariant-lines

@@ -1,5 +1,5 @@
-use Rattle.ds_machine.proofs.Words.{ℕ, ◌≤◌, sym, ◌∙◌, ap, subst, V5, Nine, Outcome, Setting, executed_word, vectors_of, guarded_memory, map_seen}
-use Rattle.ds_machine.proofs.Words.{NineReach, nine_memory, Waited, nine_wait, waiting, nine_most, waited_so}
+use Rattle.ds_machine.proofs.Words.{Nine, NineReach, Outcome, Setting, V5, Waited, ap, executed_word, guarded_memory, map_seen, nine_memory}
+use Rattle.ds_machine.proofs.Words.{nine_most, nine_wait, subst, sym, vectors_of, waited_so, waiting, ℕ, ◌∙◌, ◌≤◌}
 use Rattle.ds_machine.proofs.WaitedSteps.{nine_move, nine_word, word_brief}
 use Rattle.ds_machine.proofs.sides.NineViewSide.execute.Goals as goal
 

@@ -1,5 +1,5 @@
-use Rattle.ds_machine.proofs.Words.{ℕ, ◌≤◌, sym, ◌∙◌, ap, subst, V5, Nine, Outcome, carried_out, operation_meaning, run_is_decoded, guarded_memory}
-use Rattle.ds_machine.proofs.Words.{map_seen, NineReach, nine_memory, Waited, nine_wait, waiting, nine_most, waited_so}
+use Rattle.ds_machine.proofs.Words.{Nine, NineReach, Outcome, V5, Waited, ap, carried_out, guarded_memory, map_seen, nine_memory, nine_most}
+use Rattle.ds_machine.proofs.Words.{nine_wait, operation_meaning, run_is_decoded, subst, sym, waited_so, waiting, ℕ, ◌∙◌, ◌≤◌}
 use Rattle.ds_machine.proofs.DecodedOperations.{nine_executes}
 use Rattle.ds_machine.proofs.WaitedSteps.{nine_operation, operation_brief}
 use Rattle.ds_machine.proofs.sides.NineViewSide.run.Goals as goal

@@ -1,5 +1,5 @@
-use Rattle.ds_machine.proofs.Words.{ℕ, ◌∙◌, ap, V5, Nine, Outcome, carried_out, operation_meaning, guarded_memory, map_seen, NineReach, nine_memory}
-use Rattle.ds_machine.proofs.Words.{Waited, nine_wait, waiting, waits_of, nine_most, waited_so}
+use Rattle.ds_machine.proofs.Words.{Nine, NineReach, Outcome, V5, Waited, ap, carried_out, guarded_memory, map_seen, nine_memory, nine_most}
+use Rattle.ds_machine.proofs.Words.{nine_wait, operation_meaning, waited_so, waiting, waits_of, ℕ, ◌∙◌}
 use Rattle.ds_machine.proofs.DecodedOperations.{nine_executes}
 use Rattle.ds_machine.proofs.WaitedSteps.{brief_by, nine_operation, operation_brief}
 use Rattle.ds_machine.proofs.NearAccesses.{nine_stays}

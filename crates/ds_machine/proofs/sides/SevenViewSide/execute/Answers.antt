@@ -1,5 +1,5 @@
-use Rattle.ds_machine.proofs.Words.{ℕ, ◌≤◌, sym, ◌∙◌, ap, subst, V4, Seven, Outcome, executed_word, arm7, map_seen, SevenReach, seven_memory, Waited}
-use Rattle.ds_machine.proofs.Words.{seven_wait, waiting, seven_most, waited_so}
+use Rattle.ds_machine.proofs.Words.{Outcome, Seven, SevenReach, V4, Waited, ap, arm7, executed_word, map_seen, seven_memory, seven_most, seven_wait}
+use Rattle.ds_machine.proofs.Words.{subst, sym, waited_so, waiting, ℕ, ◌∙◌, ◌≤◌}
 use Rattle.ds_machine.proofs.WaitedSteps.{seven_word, word_brief}
 use Rattle.ds_machine.proofs.sides.SevenViewSide.execute.Goals as goal
 

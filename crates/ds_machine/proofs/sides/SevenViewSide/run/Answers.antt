@@ -1,5 +1,5 @@
-use Rattle.ds_machine.proofs.Words.{ℕ, ◌≤◌, sym, ◌∙◌, ap, subst, V4, Seven, Outcome, carried_out, operation_meaning, run_is_decoded, map_seen}
-use Rattle.ds_machine.proofs.Words.{SevenReach, seven_memory, Waited, seven_wait, waiting, seven_most, waited_so}
+use Rattle.ds_machine.proofs.Words.{Outcome, Seven, SevenReach, V4, Waited, ap, carried_out, map_seen, operation_meaning, run_is_decoded}
+use Rattle.ds_machine.proofs.Words.{seven_memory, seven_most, seven_wait, subst, sym, waited_so, waiting, ℕ, ◌∙◌, ◌≤◌}
 use Rattle.ds_machine.proofs.DecodedOperations.{seven_executes}
 use Rattle.ds_machine.proofs.WaitedSteps.{operation_brief, seven_operation}
 use Rattle.ds_machine.proofs.sides.SevenViewSide.run.Goals as goal

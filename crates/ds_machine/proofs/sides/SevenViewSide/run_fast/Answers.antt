@@ -1,5 +1,5 @@
-use Rattle.ds_machine.proofs.Words.{ℕ, sym, ◌∙◌, ap, V4, Seven, Outcome, carried_out, operation_meaning, map_seen, SevenReach, seven_memory, Waited}
-use Rattle.ds_machine.proofs.Words.{seven_wait, waiting, waits_of, seven_most, waited_so}
+use Rattle.ds_machine.proofs.Words.{Outcome, Seven, SevenReach, V4, Waited, ap, carried_out, map_seen, operation_meaning, seven_memory, seven_most}
+use Rattle.ds_machine.proofs.Words.{seven_wait, sym, waited_so, waiting, waits_of, ℕ, ◌∙◌}
 use Rattle.ds_machine.proofs.DecodedOperations.{seven_executes}
 use Rattle.ds_machine.proofs.WaitedSteps.{brief_by, operation_brief, seven_operation}
 use Rattle.ds_machine.proofs.NearAccesses.{seven_stays}

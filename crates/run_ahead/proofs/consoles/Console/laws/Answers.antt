@@ -1,5 +1,4 @@
-use Rattle.run_ahead.proofs.Words.{AreWithin, ConsoleState, IsSound, ap, arith, length, subst, ◌∙◌, ◌≡◌, ◌≤◌}
-use Rattle.gx_fifo.specs.Entries.{most_entries}
+use Rattle.run_ahead.proofs.Words.{AreWithin, ConsoleState, IsSound, ap, arith, length, most_entries, subst, ◌∙◌, ◌≡◌, ◌≤◌}
 use Rattle.run_ahead.proofs.consoles.Console.laws.Goals as goal
 
 pub returns-clause-sound : goal.returns-clause-sound

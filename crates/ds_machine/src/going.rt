@@ -255,7 +255,7 @@ impl Parts {
         }
     }
 
-    /// The same where its line is up: while I is set, as in a handler before it acknowledges its interrupt, for which each step asks. None is ahead
+    /// The same where its line is up: while I is set, for which each step asks, as in a handler before it acknowledges its interrupt. None is ahead
     /// of its turn. It stands out of line, with a copy of its own of all that a step runs.
     #[inline(never)]
     fn go_masked(&mut self, proc: Proc, until: Tick, end: u64, limit: u64) -> bool

@@ -1,3 +1,4 @@
 mod Words
 mod Coming
+mod Dues
 mod Kept

@@ -2,6 +2,7 @@
 
 ghost use Rattle.std.specs.Prelude.{◌≡◌, ◌<◌, IfOk};
 ghost use Rattle.ds_machine.specs.Booted.{machine_booted};
+ghost use Rattle.ds_machine.specs.Private.{rank_of};
 ghost use Rattle.gdb_session.specs.Tapes.{ComesFromBoot, boot_of};
 
 use crate::decks::{Deck, Stepped};
@@ -104,6 +105,8 @@ impl Tape {
 
 impl Deck for Tape {
     ghost boot = { boot_of };
+
+    ghost console = { λ t. t.console };
 
     fn now(&self) -> Tick {
         self.console.limit()
@@ -210,7 +213,8 @@ impl Deck for Tape {
 
 /// A processor's rank among the actors.
 fn rank(proc: Proc) -> u8
-    ensures { result < 24 }
+    ensures value { result ≡ rank_of proc }
+    ensures few { result < 24 }
 {
     match proc {
         Proc::Nine => 22,

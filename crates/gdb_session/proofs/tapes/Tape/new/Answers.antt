@@ -8,4 +8,4 @@ invariant_of-tape c =
     begins c.args.cart c.args.keys _ _ c.in_ok-script.ensures e.booted _ _ c.new-2.ensures (c.laws.ensures.sound (ap (λ (k : ConsoleState). k.stopped) e.booted)) e.parts e.within
 
 pub returns : goal.returns
-returns c = c.keep.ensures ∙ begins_boot c.args.cart c.args.keys _ _ c.in_ok-script.ensures c.in_ok-console.ensures.booted
+returns c = c.keep.ensures.boot ∙ begins_boot c.args.cart c.args.keys _ _ c.in_ok-script.ensures c.in_ok-console.ensures.booted

@@ -1,12 +1,19 @@
-use Rattle.gdb_session.proofs.Words.{IsSaveOf, ap, boot_of, tape_view, ◌∙◌}
+use Rattle.gdb_session.proofs.Words.{ComesFrom, IsSaveOf, TapeState, ap, boot_of, subst, tape_view, ◌∙◌}
 use Rattle.gdb_session.proofs.Kept.{goes_on, is_kept, kept_more, same_boot}
+use Rattle.gdb_session.proofs.Coming.{stays}
 use Rattle.gdb_session.proofs.tapes.TapeDeck.keep.Goals as goal
 
 pub invariant_of-self : goal.invariant_of-self
 invariant_of-self c = goes_on _ _ _ _ _ c.self.invariant c.save_console.ensures.comes
 
-pub returns-in_default : goal.returns-in_default
-returns-in_default c = same_boot (tape_view c.self.inside) _ c.save_console.ensures.comes ∙ ap boot_of c.self.view_is
+pub returns-then-not-wants-clause-comes : goal.returns-then-not-wants-clause-comes
+returns-then-not-wants-clause-comes c = stays _
+
+pub returns-in_default-clause-comes : goal.returns-in_default-clause-comes
+returns-in_default-clause-comes c = subst (λ (t : TapeState). ComesFrom t.console c.save_console.new.console) c.self.view_is c.save_console.ensures.comes
+
+pub returns-in_default-clause-boot : goal.returns-in_default-clause-boot
+returns-in_default-clause-boot c = same_boot (tape_view c.self.inside) _ c.save_console.ensures.comes ∙ ap boot_of c.self.view_is
 
 pub invariant_of-self-2 : goal.invariant_of-self-2
 invariant_of-self-2 c =
@@ -22,5 +29,8 @@ invariant_of-self-2 c =
       kept = kept_more (IsSaveOf now.machine.file i.keys i.digest) i.saves.all.items c.push.new.self.all.items _ on.kept (kept _ c.limit-at.ensures.limit c.in-Some.ensures.back) c.push.ensures;
     }
 
-pub returns : goal.returns
-returns c = same_boot (tape_view c.self.inside) _ c.save_console.ensures.comes ∙ ap boot_of c.self.view_is
+pub returns-clause-comes : goal.returns-clause-comes
+returns-clause-comes c = subst (λ (t : TapeState). ComesFrom t.console c.save_console.new.console) c.self.view_is c.save_console.ensures.comes
+
+pub returns-clause-boot : goal.returns-clause-boot
+returns-clause-boot c = same_boot (tape_view c.self.inside) _ c.save_console.ensures.comes ∙ ap boot_of c.self.view_is

@@ -1,9 +1,12 @@
-use Rattle.gdb_session.proofs.Words.{ap, boot_of, tape_view, ◌∙◌}
+use Rattle.gdb_session.proofs.Words.{ComesFrom, TapeState, ap, boot_of, subst, tape_view, ◌∙◌}
 use Rattle.gdb_session.proofs.Kept.{goes_on, same_boot}
 use Rattle.gdb_session.proofs.tapes.TapeDeck.run_to.Goals as goal
 
 pub invariant_of-self : goal.invariant_of-self
 invariant_of-self c = goes_on _ _ _ _ _ c.self.invariant c.run_console.ensures
 
-pub returns : goal.returns
-returns c = same_boot (tape_view c.self.inside) _ c.run_console.ensures ∙ ap boot_of c.self.view_is
+pub returns-clause-boot : goal.returns-clause-boot
+returns-clause-boot c = same_boot (tape_view c.self.inside) _ c.run_console.ensures ∙ ap boot_of c.self.view_is
+
+pub returns-clause-comes : goal.returns-clause-comes
+returns-clause-comes c = subst (λ (t : TapeState). ComesFrom t.console c.run_console.new.console) c.self.view_is c.run_console.ensures

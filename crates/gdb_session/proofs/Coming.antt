@@ -1,8 +1,9 @@
-use Rattle.gdb_session.proofs.Words.{ComesFrom, ConsoleState, List, MachineState, Shown, ap, reference_step, sym, ℕ, ◌∙◌, ◌≡◌}
-use Rattle.std.proofs.Common.{◌⊎◌, inl, inr, Bool, true, false, [], Option, Some, None, is_some, refl}
+use Rattle.gdb_session.proofs.Words.{ComesFrom, ConsoleState, List, MachineState, Shown, ap, arith, dues_of, reference_step, subst, sym, ℕ, ◌∙◌, ◌≡◌}
+use Rattle.std.proofs.Common.{◌⊎◌, inl, inr, Bool, true, false, [], Option, Some, None, is_some, max, refl}
 use Rattle.ds_base.specs.declared.left_out.LeftOut.{LeftOut}
 use Rattle.ds_base.specs.declared.processors.Proc.{Proc}
-use Rattle.ds_runs.specs.Runs.{MachineStep, Makes, Stops}
+use Rattle.gdb_session.specs.Tapes.{HasRunTo}
+use Rattle.ds_runs.specs.Runs.{IsOver, MachineStep, Makes, Stops}
 use Rattle.ds_machine.specs.Hearing.{geometry_rank}
 use Rattle.ds_machine.specs.Lagging.{CatchesUpIf, TakesGeometry, more_geometry, no_geometry, observes_by}
 use Rattle.ds_machine.specs.Private.{rank_of}
@@ -100,3 +101,33 @@ comes_on first middle last outs more came (one_turn_on start before now front un
 pub ran_on : (until : ℕ) (first middle last : ConsoleState) (answer : Turned) → ComesFrom first middle → TurnsUpTo until middle answer last → ComesFrom first last
 ran_on until first middle last answer came up =
     let e = ran_comes until middle last answer up in comes_on first middle last came.0 e.0 came.1 e.1
+
+-- ---- the tick to which a console is run
+
+again : (limit until : ℕ) → max (max limit until) until ≡ max limit until
+again limit until = grind arith
+
+stopped_limit : (until : ℕ) (old new : ConsoleState) (left : LeftOut) (stopped : Option LeftOut) → old.stopped ≡ stopped → Turns until old (Stopped left) new
+    → max new.limit until ≡ max old.limit until
+stopped_limit until old new left None is t = ap (λ (c : ConsoleState). max c.limit until) (t.0 is).1 ∙ again old.limit until
+stopped_limit until old new left (Some had) is t = ap (λ (c : ConsoleState). max c.limit until) (t.1 (ap is_some is)).1
+
+turn_limit : (until : ℕ) (old new : ConsoleState) (answer : Turned) → Turns until old answer new → max new.limit until ≡ max old.limit until
+turn_limit until old new Ran t = ap (λ (c : ConsoleState). max c.limit until) t.2 ∙ again old.limit until
+turn_limit until old new (Frame swapped) t = ap (λ (c : ConsoleState). max c.limit until) t.2 ∙ again old.limit until
+turn_limit until old new AtEnd t = ap (λ (c : ConsoleState). max c.limit until) t.2 ∙ again old.limit until
+turn_limit until old new (Stopped left) t = stopped_limit until old new left old.stopped refl t
+
+pub ran_limit : (until : ℕ) (old new : ConsoleState) (answer : Turned) → TurnsUpTo until old answer new → max new.limit until ≡ max old.limit until
+ran_limit until old new answer up = turn_limit until up.before new answer up.last ∙ up.ran.limit
+
+ran_to : (until : ℕ) (old new : ConsoleState) → TurnsUpTo until old AtEnd new → HasRunTo until old new
+ran_to until old new up = (
+  ap (λ (c : ConsoleState). c.limit) up.last.2 ∙ up.ran.limit,
+  subst (λ (m : MachineState). IsOver (dues_of m) until) (sym (ap (λ (c : ConsoleState). c.machine) up.last.2)) up.last.1,
+)
+
+pub ran_there : (until n : ℕ) (first middle last : ConsoleState) → n ≡ until → max middle.limit n ≡ max first.limit n → TurnsUpTo n middle AtEnd last
+    → HasRunTo until first last
+ran_there until n first middle last same kept up =
+    let h = ran_to n middle last up in subst (λ (k : ℕ). HasRunTo k first last) same (h.0 ∙ kept, h.1)

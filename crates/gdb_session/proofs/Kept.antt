@@ -153,6 +153,9 @@ module _ (keys : List KeyLine) (digest : List ℕ) (old : ConsoleState) (saves :
     pub back_file : new.machine.file ≡ old.machine.file
     back_file = ap (λ (k : ConsoleState). k.machine.file) (sym is_that) ∙ its_file
 
+    pub back_at : new.limit ≡ save.at
+    back_at = ap (λ (k : ConsoleState). k.limit) (sym is_that) ∙ kept.at
+
     pub comes_back : IsOfOneRun (machine_booted new.machine.file keys) keys digest new saves
     comes_back =
         comes_again keys digest old new saves h back_file (subst (λ (k : ConsoleState). ComesFromBoot (machine_booted old.machine.file keys) k) is_that kept.came)

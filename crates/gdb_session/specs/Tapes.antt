@@ -1,7 +1,8 @@
-use Rattle.std.specs.Prelude.{ℕ, ◌≡◌, List, All, None}
+use Rattle.std.specs.Prelude.{ℕ, ◌≡◌, List, All, None, max}
 use Rattle.ds_base.specs.declared.keys.KeyLine.{KeyLine}
+use Rattle.ds_runs.specs.Runs.{IsOver}
 use Rattle.ds_machine.specs.Booted.{machine_booted}
-use Rattle.ds_machine.specs.Reference.{Shown}
+use Rattle.ds_machine.specs.Reference.{Shown, dues_of}
 use Rattle.ds_machine.specs.Saved.{script_from}
 use Rattle.ds_machine.specs.Sound.{HasSoundParts, IsSound}
 use Rattle.ds_machine.specs.States.{MachineState}
@@ -21,6 +22,15 @@ pub record TapeState : Type 0 where
 -- one console comes from another by some turns
 abbrev pub ComesFrom : ConsoleState → ConsoleState → Type 0
 ComesFrom old new = (outs : List Shown) × TurnsOn old new outs
+
+-- a console was run to a tick, where it wasn't run further already: nobody is due below it any more
+abbrev pub HasRunTo : ℕ → ConsoleState → ConsoleState → Type 0
+HasRunTo until old new = (new.limit ≡ max old.limit until) × IsOver (dues_of new.machine) until
+
+-- a console stands at a tick: it was run to it and not further, and nobody is due below it. By the laws of turns the reference run to that tick ends
+-- there
+abbrev pub StandsAt : ℕ → ConsoleState → Type 0
+StandsAt at c = (c.limit ≡ at) × IsOver (dues_of c.machine) at
 
 -- a console comes from a machine at boot. By the laws of turns the reference run from there to each limit that isn't below the console's goes on from
 -- it, and where it stopped that run stops

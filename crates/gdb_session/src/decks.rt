@@ -1,6 +1,6 @@
 //! What a session looks at and moves: a machine with its past.
 
-ghost use Rattle.std.specs.Prelude.{◌≡◌, ◌==◌, false, is_some};
+ghost use Rattle.std.specs.Prelude.{◌≡◌, ◌≤◌, ◌^◌, ◌==◌, false, true, is_some};
 ghost use Rattle.std.specs.Option.{option_map_or};
 ghost use Rattle.ds_runs.specs.Runs.{due_at};
 ghost use Rattle.ds_machine.specs.Acting.{IsActing};
@@ -13,7 +13,8 @@ ghost use Rattle.ds_machine.specs.States.{MachineState};
 ghost use Rattle.ds_machine.specs.Steps.{is_halted, processor_of};
 ghost use Rattle.run_ahead.specs.Consoles.{ConsoleState};
 ghost use Rattle.run_ahead.specs.Looks.{looked_in};
-ghost use Rattle.gdb_session.specs.Tapes.{ComesFrom};
+ghost use Rattle.gdb_session.specs.declared.decks.Stepped.TheVariants.{Taken};
+ghost use Rattle.gdb_session.specs.Tapes.{ComesFrom, HasRunTo, StandsAt};
 
 use arm_core::Reach;
 use ds_base::{Due, LeftOut, Proc, Tick, Width};
@@ -97,11 +98,13 @@ pub trait Deck {
     /// Goes on to a tick, which is its place in time then; or comes to a step that needs what is left out.
     fn run_to(&mut self, until: Tick) -> Stepped
         ensures boot { boot self.new ≡ boot self.old }
-        ensures comes { ComesFrom (console self.old) (console self.new) };
+        ensures comes { ComesFrom (console self.old) (console self.new) }
+        ensures taken { result ≡ Taken → until.0 ≤ 2 ^ 56 → HasRunTo until.0 (console self.old) (console self.new) };
 
-    /// Goes to a tick at which it was before, or on to one; false for want of memory.
+    /// Goes to a tick at which it was before, or on to one; false for want of memory, where a step on the way is left out, and past the last tick.
     fn go_to(&mut self, at: Tick) -> bool
-        ensures { boot self.new ≡ boot self.old };
+        ensures boot { boot self.new ≡ boot self.old }
+        ensures stands { result ≡ true → StandsAt at.0 (console self.new) };
 
     /// Keeps its state for the ways back, where work was done since the last one that is kept.
     fn keep(&mut self)

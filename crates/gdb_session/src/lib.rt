@@ -14,7 +14,8 @@
 //!
 //! Proved: no bytes that come in make a call fault, and each call returns. Whatever they ask for, the deck comes from the boot from which it came
 //! before (`Line::hear`), and a tape's console came from its boot by turns (`Tape::laws`), over all ways forward and back: what is kept of
-//! it is read back as the console that it was. Each look at a deck tells what its console has (`Deck`): ticks, addresses, registers, what is read.
+//! it is read back as the console that it was. A deck that went to a tick stands at it: all steps below it are taken (`Deck::go_to`), so the
+//! reference run to that tick ends there. Each look at a deck tells what its console has: ticks, addresses, registers, what is read.
 //!
 //! Only tested, by what the program `nds_gdb` answers to a session's packets: where runs stop, and how answers are put together of looks.
 #![tactic(auto)]

@@ -1,10 +1,11 @@
 //! Calls of a console, each with what it needs tested first.
 
-ghost use Rattle.std.specs.Prelude.{◌≡◌, None, IfOk, IfSome};
+ghost use Rattle.std.specs.Prelude.{◌≡◌, ◌≤◌, ◌^◌, None, IfOk, IfSome};
 ghost use Rattle.ds_machine.specs.WithinLaws.{IsWithinTick};
 ghost use Rattle.ds_machine.specs.Reference.{dues_of};
 ghost use Rattle.ds_runs.specs.Runs.{IsOver};
-ghost use Rattle.gdb_session.specs.Tapes.{ComesFrom};
+ghost use Rattle.gdb_session.specs.Tapes.{ComesFrom, HasRunTo};
+ghost use Rattle.gdb_session.specs.declared.decks.Stepped.TheVariants.{Taken};
 ghost use Rattle.run_ahead.specs.Saved.{IsReadBack};
 
 use crate::decks::Stepped;
@@ -14,9 +15,6 @@ use std::alloc::{AllocError, Global};
 
 /// The greatest tick that a run comes to, by the name of `Console::turn`.
 pub const MOST_TICK: u64 = 0x100_0000_0000_0000;
-
-/// How many frames a run makes whole at most between two looks.
-const MOST_FRAMES: u64 = 0x100_0000_0000_0000;
 
 /// A copy of a key script.
 pub fn copy_keys(alloc: Global, keys: &Keys) -> Result<Keys, AllocError>
@@ -55,19 +53,19 @@ pub fn step_all_of(console: &mut Console, at: Tick) -> Stepped
     run_console(console, Tick(at.0.min(MOST_TICK - 1) + 1))
 }
 
-/// Runs a console to a tick.
+/// Runs a console to a tick, the last one at most.
 pub fn run_console(console: &mut Console, until: Tick) -> Stepped
-    ensures { ComesFrom console.old console.new }
+    ensures comes { ComesFrom console.old console.new }
+    ensures taken { result ≡ Taken → until.0 ≤ 2 ^ 56 → HasRunTo until.0 console.old console.new }
 {
     let until = Tick(until.0.min(MOST_TICK));
-    'frames: for _ in 0..MOST_FRAMES {
+    'frames: loop {
         match console.run_on(until) {
             Turned::Stopped(left) => return Stepped::Left(left),
             Turned::AtEnd => return Stepped::Taken,
             _ => {}
         }
     }
-    Stepped::Taken
 }
 
 /// The console in bytes, where it hasn't stopped and all steps below its limit are taken.

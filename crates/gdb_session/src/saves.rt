@@ -1,6 +1,6 @@
 //! States that are kept for the ways back.
 
-ghost use Rattle.std.specs.Prelude.{◌≡◌, ◌++◌, ◌∷◌, [], ℕ, All, Contains, IfSome};
+ghost use Rattle.std.specs.Prelude.{◌≡◌, ◌++◌, ◌∷◌, ◌≤◌, [], ℕ, All, Contains, IfSome};
 
 use std::alloc::{AllocError, Global};
 
@@ -77,7 +77,8 @@ impl Saves {
 
     /// The last one that isn't after a tick.
     pub fn before(&self, at: u64) -> Option<&Save>
-        ensures { IfSome result (λ save. Contains self.now.all.items save.now) }
+        ensures there { IfSome result (λ save. Contains self.now.all.items save.now) }
+        ensures early { IfSome result (λ save. save.now.at ≤ at) }
     {
         let mut found = None;
         'saves: for save in self.all.iter() {

@@ -1,6 +1,6 @@
 //! The console with its past.
 
-ghost use Rattle.std.specs.Prelude.{◌≡◌, ◌<◌, IfOk};
+ghost use Rattle.std.specs.Prelude.{◌≡◌, ◌<◌, ◌≤◌, true, IfOk};
 ghost use Rattle.ds_machine.specs.Booted.{machine_booted};
 ghost use Rattle.ds_machine.specs.Private.{rank_of};
 ghost use Rattle.gdb_session.specs.Tapes.{ComesFromBoot, boot_of};
@@ -72,7 +72,8 @@ impl Tape {
 
     /// Becomes the last state that is kept and isn't after a tick.
     fn take(&mut self, at: u64) -> bool
-        ensures { boot_of self.new ≡ boot_of self.old }
+        ensures boot { boot_of self.new ≡ boot_of self.old }
+        ensures early { result ≡ true → self.new.console.limit ≤ at }
     {
         let Ok(keys) = copy_keys(self.alloc, &self.keys) else {
             return false;
@@ -92,6 +93,17 @@ impl Tape {
             Ok(()) => true,
             Err(_) => false,
         }
+    }
+
+    /// Comes to a tick from which the run goes on to another: stays, where that isn't behind, or takes a state that is kept.
+    fn come_before(&mut self, at: u64) -> bool
+        ensures boot { boot_of self.new ≡ boot_of self.old }
+        ensures early { result ≡ true → self.new.console.limit ≤ at }
+    {
+        if self.console.limit().0 <= at && is_over(&self.console) {
+            return true;
+        }
+        self.take(at)
     }
 
     /// Does nothing; its contract states that the console came by turns from the boot with its cartridge and the key script: so it is the reference
@@ -172,11 +184,13 @@ impl Deck for Tape {
     }
 
     fn go_to(&mut self, at: Tick) -> bool {
-        let is_there = self.now().0 <= at.0 && is_over(&self.console);
-        if !is_there && !self.take(at.0) {
+        if at.0 > MOST_TICK || !self.come_before(at.0) {
             return false;
         }
-        self.run_to(at) == Stepped::Taken
+        match self.run_to(at) {
+            Stepped::Taken => true,
+            Stepped::Left(_) => false,
+        }
     }
 
     fn keep(&mut self) {

@@ -1,9 +1,11 @@
-use Rattle.gdb_session.proofs.Words.{ap, boot_of, ◌∙◌}
-use Rattle.gdb_session.proofs.tapes.TapeDeck.go_to.Goals.{else-not-is_there-via-else-not-is_there, else-not-is_there-via-then-not-is_there+else-not-take}
+use Rattle.gdb_session.proofs.Words.{arith, ◌∙◌}
 use Rattle.gdb_session.proofs.tapes.TapeDeck.go_to.Goals as goal
 
-pub returns : goal.returns
-returns c = elim c.else-not-is_there.branch [
-  | else-not-is_there-via-then-not-is_there+else-not-take w ↦ c.run_to.ensures.boot ∙ ap boot_of w.self-is ∙ w.take.ensures
-  | else-not-is_there-via-else-not-is_there w ↦ c.run_to.ensures.boot ∙ ap boot_of w.self-is
-]
+pub returns-in-Taken : goal.returns-in-Taken
+returns-in-Taken c =
+    let early = c.come_before.ensures.early c.if-not-come_before.false in
+    let h = c.run_to.ensures.taken c.in-Taken.is c.if-at-gt-MOST_TICK.false in
+    let limit = h.0 in record {
+      boot = c.run_to.ensures.boot ∙ c.come_before.ensures.boot;
+      stands = λ _. (grind (arith, limit, early), h.1);
+    }

@@ -125,9 +125,10 @@ ran_to : (until : ℕ) (old new : ConsoleState) → TurnsUpTo until old AtEnd ne
 ran_to until old new up = (
   ap (λ (c : ConsoleState). c.limit) up.last.2 ∙ up.ran.limit,
   subst (λ (m : MachineState). IsOver (dues_of m) until) (sym (ap (λ (c : ConsoleState). c.machine) up.last.2)) up.last.1,
+  ap (λ (c : ConsoleState). c.stopped) up.last.2 ∙ up.last.0,
 )
 
 pub ran_there : (until n : ℕ) (first middle last : ConsoleState) → n ≡ until → max middle.limit n ≡ max first.limit n → TurnsUpTo n middle AtEnd last
     → HasRunTo until first last
 ran_there until n first middle last same kept up =
-    let h = ran_to n middle last up in subst (λ (k : ℕ). HasRunTo k first last) same (h.0 ∙ kept, h.1)
+    let h = ran_to n middle last up in subst (λ (k : ℕ). HasRunTo k first last) same (h.0 ∙ kept, h.1, h.2)

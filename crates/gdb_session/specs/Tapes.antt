@@ -23,14 +23,14 @@ pub record TapeState : Type 0 where
 abbrev pub ComesFrom : ConsoleState → ConsoleState → Type 0
 ComesFrom old new = (outs : List Shown) × TurnsOn old new outs
 
--- a console was run to a tick, where it wasn't run further already: nobody is due below it any more
+-- a console was run to a tick, where it wasn't run further already: nobody is due below it any more, and it hasn't stopped
 abbrev pub HasRunTo : ℕ → ConsoleState → ConsoleState → Type 0
-HasRunTo until old new = (new.limit ≡ max old.limit until) × IsOver (dues_of new.machine) until
+HasRunTo until old new = (new.limit ≡ max old.limit until) × IsOver (dues_of new.machine) until × (new.stopped ≡ None)
 
--- a console stands at a tick: it was run to it and not further, and nobody is due below it. By the laws of turns the reference run to that tick ends
--- there
+-- a console stands at a tick: it was run to it and not further, nobody is due below it, and it hasn't stopped. By the laws of turns the reference
+-- run to that tick ends there
 abbrev pub StandsAt : ℕ → ConsoleState → Type 0
-StandsAt at c = (c.limit ≡ at) × IsOver (dues_of c.machine) at
+StandsAt at c = (c.limit ≡ at) × IsOver (dues_of c.machine) at × (c.stopped ≡ None)
 
 -- a console comes from a machine at boot. By the laws of turns the reference run from there to each limit that isn't below the console's goes on from
 -- it, and where it stopped that run stops

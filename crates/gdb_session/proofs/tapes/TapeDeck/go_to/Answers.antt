@@ -7,5 +7,5 @@ returns-in-Taken c =
     let h = c.run_to.ensures.taken c.in-Taken.is c.if-at-gt-MOST_TICK.false in
     let limit = h.0 in record {
       boot = c.run_to.ensures.boot ∙ c.come_before.ensures.boot;
-      stands = λ _. (grind (arith, limit, early), h.1);
+      stands = λ _. (grind (arith, limit, early), h.1, h.2);
     }

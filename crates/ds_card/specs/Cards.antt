@@ -72,8 +72,11 @@ card_word file command number =
 -- ---- what is written
 
 -- a word is ready so many ticks after the start, or after the word before it was taken (our choice)
+abbrev pub word_ticks : ℕ
+word_ticks = 40
+
 abbrev pub next_word_after : Tick → NextWord
-next_word_after now = Due (record { 0 = now.0 + 40 })
+next_word_after now = Due (record { 0 = now.0 + word_ticks })
 
 -- the ports after a write. ROMCTRL and the command are let be while a transfer is busy (our choice).
 abbrev pub ports_written : CardState → Proc → ℕ → Width → ℕ → CardState

@@ -16,6 +16,9 @@ use ds_base::{Interrupt, LeftKind, Proc, Raised, Stop, Tick, Width, known};
 pub use saved::saved_laws;
 use std::marker::Model;
 
+/// After so many ticks a word is ready, counted from the start, or from when the word before it was taken. (Our choice.)
+const WORD_TICKS: u64 = 40;
+
 /// The next word of a transfer.
 #[derive(Clone, Copy, PartialEq, Eq)]
 pub enum NextWord {
@@ -414,7 +417,7 @@ fn due_after(now: Tick) -> NextWord
     requires { IsEarly (Some now) }
     ensures { result ≡ next_word_after now }
 {
-    NextWord::Due(Tick(now.0 + 40))
+    NextWord::Due(Tick(now.0 + WORD_TICKS))
 }
 
 fn none_raised() -> Raised

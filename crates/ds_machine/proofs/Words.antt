@@ -174,7 +174,7 @@ pub use Rattle.gx_fifo.specs.GxStates.{AreWaiting, GxState, done_by, gx_finished
 pub use Rattle.gx_fifo.specs.Saved.{holds_by}
 unfoldable pub use Rattle.gx_fifo.specs.Saved.{gx_format_by}
 pub use Rattle.gx_fifo.specs.declared.gx.saved.Asked.{Asked}
-pub use Rattle.gx_geometry.proofs.Opened.{comes_back, open_by, open_reads, spelled_once}
+pub use Rattle.ds_state.proofs.Opened.{comes_back, open_by, open_reads, spelled_once}
 unfoldable pub use Rattle.gx_geometry.specs.Numbers.{numbers_at_boot}
 pub use Rattle.gx_geometry.specs.States.{Swapped}
 unfoldable pub use Rattle.gx_geometry.specs.States.{geometry_after, swapped}

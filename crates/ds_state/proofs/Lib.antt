@@ -6,5 +6,6 @@ pub mod Exact
 pub mod Kept
 pub mod Loop
 pub mod Masks
+pub mod Opened
 pub mod Soon
 pub mod Written

@@ -17,9 +17,16 @@ gx_port_row first words takes_commands port = record { first = first; words = wo
 abbrev pub display_control_row : GxPortRow
 display_control_row = gx_port_row 0x060 1 false (λ i. Display)  -- DISP3DCNT
 
+-- the engine's own stand from here on; what is no register's among them, or behind them, is no other unit's either
+abbrev pub engine_first : ℕ
+engine_first = 0x400
+
+abbrev pub is_engine_port : ℕ → Bool
+is_engine_port at = is_within engine_first 0x300 at
+
 abbrev pub engine_rows : List GxPortRow
 engine_rows =
-    gx_port_row 0x400 16 true (λ i. Fifo)  -- GXFIFO
+    gx_port_row engine_first 16 true (λ i. Fifo)  -- GXFIFO
     ∷ gx_port_row 0x440 112 true (λ i. Direct (0x10 + i))  -- MTX_MODE to VEC_TEST, each command's own port
     ∷ gx_port_row 0x600 1 false (λ i. Status)  -- GXSTAT
     ∷ gx_port_row 0x604 1 false (λ i. Lengths)  -- RAM_COUNT

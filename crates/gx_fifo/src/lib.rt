@@ -33,3 +33,4 @@ mod ports;
 
 pub use entries::GxEntry;
 pub use gx::{Asked, Gx, saved_laws};
+pub use ports::{DISP3DCNT, ENGINE_PAST, GXFIFO, GxPort, port_at};

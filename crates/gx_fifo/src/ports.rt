@@ -3,6 +3,15 @@
 ghost use Rattle.std.specs.Prelude.{◌≡◌};
 ghost use Rattle.gx_fifo.specs.GxPorts.{gx_port};
 
+/// DISP3DCNT's offset from 4000000h.
+pub const DISP3DCNT: u32 = 0x060;
+
+/// GXFIFO's. The engine's other ports stand behind it.
+pub const GXFIFO: u32 = 0x400;
+
+/// Where the engine's ports end: from GXFIFO up to here no other unit has any.
+pub const ENGINE_PAST: u32 = 0x700;
+
 /// A port of the geometry engine, a whole word (GBATEK, "DS I/O Maps"). Numbers count words from the first one of a register.
 #[derive(Clone, Copy)]
 pub enum GxPort {
@@ -28,14 +37,15 @@ pub enum GxPort {
     Unlisted,
 }
 
-/// The ports of an offset.
+/// The port of an offset from 4000000h.
+#[inline(always)]
 #[tactic(auto, unfolding(crate::specs::GxPorts::gx_port))]
 pub fn port_at(at: u32) -> GxPort
     ensures { result ≡ gx_port at }
 {
     match at {
-        0x060..=0x063 => GxPort::Display,
-        0x400..=0x43F => GxPort::Fifo,
+        DISP3DCNT..=0x063 => GxPort::Display,
+        GXFIFO..=0x43F => GxPort::Fifo,
         0x440..=0x5FF => GxPort::Direct((0x10 + (at - 0x440) / 4) as u8),
         0x600..=0x603 => GxPort::Status,
         0x604..=0x607 => GxPort::Lengths,

@@ -10,6 +10,5 @@ pub mod Sides
 pub mod Recent
 pub mod Lit
 pub mod SavedLaws
-pub mod Opened
 pub mod SavedParts
 pub mod Walks

@@ -2,7 +2,7 @@
 use Rattle.gx_geometry.proofs.Words.{Format, Left, List, [], bytes_written, current_format, false, geometry_format, geometry_parts, lighting_format}
 use Rattle.gx_geometry.proofs.Words.{read_format, refl, results_format, subst, sym, true, ℕ, ◌∷◌, ◌≡◌}
 use Rattle.gx_geometry.specs.States.{GeometryState}
-use Rattle.gx_geometry.proofs.Opened.{open_by, open_reads}
+use Rattle.ds_state.proofs.Opened.{open_by, open_reads}
 
 -- the fields of three of them stand in the whole
 parts_open : open_by (false ∷ true ∷ true ∷ true ∷ []) geometry_parts ≡ geometry_format

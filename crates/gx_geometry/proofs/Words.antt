@@ -1,5 +1,5 @@
 -- The words of lower crates and of this one that its proofs speak in, from one place.
-pub use Rattle.std.proofs.Common.{Bool, Err, FitsSigned, List, None, Ok, Option, Some, [], ap, append-nil, append_assoc, arith, drop, false, inl, inr}
+pub use Rattle.std.proofs.Common.{Bool, FitsSigned, List, None, Option, Some, [], ap, append-nil, append_assoc, arith, drop, false, inl, inr}
 pub use Rattle.std.proofs.Common.{length, length-append, map, min, nat_le, negsuc, pos, refl, rules, slice_index, slice_index_or, subst, suc, sym}
 pub use Rattle.std.proofs.Common.{take, true, true≢false, zero, ℕ, ℤ, ◌%◌, ◌*ℤ◌, ◌*◌, ◌++◌, ◌+ℤ◌, ◌+◌, ◌-◌, ◌/◌, ◌<ℤ◌, ◌<◌, ◌^◌, ◌∙◌, ◌∷◌, ◌≡◌, ◌≢◌}
 pub use Rattle.std.proofs.Common.{◌≤ℤ◌, ◌≤◌, ◌⊎◌}
@@ -10,9 +10,9 @@ pub use Rattle.std.specs.List.{AllByRecursion, list_all}
 pub use Rattle.std.specs.Prelude.{if◌then◌else◌, is_some, nat_lt, option_to_list, slice_set, unsigned_abs, ◌&&◌, ◌==◌, ◌||◌}
 pub use Rattle.ds_base.proofs.Choices.{is_equal, is_unequal, low_or_high, same_or_not}
 pub use Rattle.ds_base.specs.Bits.{bit, bits}
-pub use Rattle.ds_state.specs.Formats.{Format, bytes_written, done, list, signed_format, then_field, then_part, written_each}
+pub use Rattle.ds_state.specs.Formats.{Format, bytes_written, signed_format, written_each}
 pub use Rattle.ds_state.specs.Loops.{with_front}
-pub use Rattle.ds_state.specs.Reading.{Left, ReadAnswer, read_code, read_format, read_list, ruled, ◌>>=◌}
+pub use Rattle.ds_state.specs.Reading.{Left, read_format, read_list}
 pub use Rattle.gx_matrix.specs.declared.commands.GeometryCommand.{GeometryCommand}
 pub use Rattle.gx_geometry.specs.BoundLaws.{AreLimited, ArePlaces, AreSmall, AreTold, HaveColours, HavePalettes, HaveShapes, is_shaped, no_polygon}
 pub use Rattle.gx_geometry.specs.Bounds.{is_place, is_told}

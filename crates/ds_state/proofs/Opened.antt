@@ -1,6 +1,7 @@
 -- Parts of a format whose fields stand in the whole's: what is read is the same.
-use Rattle.gx_geometry.proofs.Words.{Bool, Err, Format, Left, List, Ok, ReadAnswer, [], bytes_written, done, false, list, read_code, read_format}
-use Rattle.gx_geometry.proofs.Words.{read_list, refl, ruled, suc, sym, then_field, then_part, true, zero, ℕ, ◌++◌, ◌>>=◌, ◌∙◌, ◌∷◌, ◌≡◌}
+use Rattle.std.proofs.Common.{Bool, Err, List, Ok, [], false, refl, suc, sym, true, zero, ℕ, ◌++◌, ◌∙◌, ◌∷◌, ◌≡◌}
+use Rattle.ds_state.specs.Formats.{Format, bytes_written, done, list, then_field, then_part}
+use Rattle.ds_state.specs.Reading.{Left, ReadAnswer, read_code, read_format, read_list, ruled, ◌>>=◌}
 use Rattle.ds_state.specs.FormatLaws.{OneSpelling, RoundTrips}
 
 -- the fields of a part, said of the whole, and what comes after it

@@ -1,6 +1,6 @@
 use Rattle.ds_machine.proofs.Words.{Bool, Due, Geometry, IsLeast, List, MachineState, Nine, None, Option, Proc, Seven, Some, Tick, [], acting_due}
 use Rattle.ds_machine.proofs.Words.{acting_dues, acting_events_of, actor_of, actors, actors_differ, ap, arith, due_at, due_by, due_of_actor}
-use Rattle.ds_machine.proofs.Words.{due_of_rank, due_with_rank, dues_of, earlier, false, first_from, if◌then◌else◌, inl, inr, is_quiet}
+use Rattle.ds_machine.proofs.Words.{due_of_rank, due_with_rank, dues_of, earlier, false, first_from, geometry_rank, if◌then◌else◌, inl, inr, is_quiet}
 use Rattle.ds_machine.proofs.Words.{least_by_parts, length, low_rank, map, none-some, processor_due, rank_of, refl, same_or_not, scan_due_tick, sym}
 use Rattle.ds_machine.proofs.Words.{true, within, ℕ, ◌++◌, ◌<◌, ◌∙◌, ◌∷◌, ◌≡◌, ◌≢◌, ◌⊎◌}
 use Rattle.ds_runs.specs.declared.actors.Actor as actor
@@ -22,8 +22,8 @@ acting_low s rank tick h = let k = within (acting_dues s) rank tick h in let e =
 
 -- a processor's
 pub acting_processor : (s : MachineState) (proc : Proc) → due_at (acting_dues s) (rank_of proc) ≡ processor_due s proc
-acting_processor s Nine = acting_of_rank s 22 (omega arith)
-acting_processor s Seven = acting_of_rank s 23 (omega arith)
+acting_processor s Nine = acting_of_rank s (rank_of Nine) (omega arith)
+acting_processor s Seven = acting_of_rank s (rank_of Seven) (omega arith)
 
 -- the list by its parts: all actors but the processors, and the processors
 pub acting_split : (s : MachineState) → acting_dues s ≡ acting_events_of s ++ processor_due s Nine ∷ processor_due s Seven ∷ []
@@ -32,7 +32,7 @@ acting_split s = refl
 
 -- the first of its parts is the least
 pub first_acting_found : (s : MachineState) (first : Due)
-    → Some first ≡ earlier (first_from 0 (acting_events_of s)) (earlier (due_with_rank 22 (processor_due s Nine)) (due_with_rank 23 (processor_due s Seven)))
+    → Some first ≡ earlier (first_from 0 (acting_events_of s)) (earlier (due_with_rank (rank_of Nine) (processor_due s Nine)) (due_with_rank (rank_of Seven) (processor_due s Seven)))
     → IsLeast (acting_dues s) first.tick first.rank
 first_acting_found s first h = least_by_parts (acting_dues s) (acting_events_of s) (processor_due s Nine) (processor_due s Seven) first (acting_split s) h refl
 
@@ -61,12 +61,12 @@ unfolding acting_dues dues_of
 loud_same s loud = maps_same (λ (a : actor.Actor). acting_due a s) (λ (a : actor.Actor). due_by a s) (loud_by s loud) actors
 
 -- an actor of another rank than geometry's acts where it is due
-pub other_acts : (s : MachineState) (other : ℕ) → other < 24 → other ≢ 12 → due_at (acting_dues s) other ≡ due_at (dues_of s) other
-other_acts s other lt ne = acting_of_rank s other lt ∙ acts_where_due (actor_of other) s (actors_differ 12 other (omega arith) lt ne) ∙ sym (due_of_rank s other lt)
+pub other_acts : (s : MachineState) (other : ℕ) → other < 24 → other ≢ geometry_rank → due_at (acting_dues s) other ≡ due_at (dues_of s) other
+other_acts s other lt ne = acting_of_rank s other lt ∙ acts_where_due (actor_of other) s (actors_differ geometry_rank other (omega arith) lt ne) ∙ sym (due_of_rank s other lt)
 
 -- an actor that is due is geometry, or it acts then
-pub acts_then : (s : MachineState) (other : ℕ) (at : Tick) → due_at (dues_of s) other ≡ Some at → (other ≡ 12) ⊎ (due_at (acting_dues s) other ≡ Some at)
-acts_then s other at h = elim (same_or_not other 12) [
+pub acts_then : (s : MachineState) (other : ℕ) (at : Tick) → due_at (dues_of s) other ≡ Some at → (other ≡ geometry_rank) ⊎ (due_at (acting_dues s) other ≡ Some at)
+acts_then s other at h = elim (same_or_not other geometry_rank) [
   | inl same ↦ inl same
   | inr ne ↦ inr (other_acts s other (low_rank s other at h) ne ∙ h)
 ]

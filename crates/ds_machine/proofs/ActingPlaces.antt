@@ -1,7 +1,7 @@
 use Rattle.ds_machine.proofs.Words.{ActsUnobserving, Geometry, IsAhead, IsLeast, IsSound, List, MachineState, Makes, Nine, Option, Proc, Seven, Shown}
-use Rattle.ds_machine.proofs.Words.{Some, Tick, [], acting_due, acting_dues, actor_of, actors_differ, ap, arith, due_at, due_by, due_of_rank, inl}
-use Rattle.ds_machine.proofs.Words.{inr, is_later, is_numbered, is_quiet, none-some, rank_of, reference_step, same_makes, same_or_not, subst, sym}
-use Rattle.ds_machine.proofs.Words.{true, true_or_false, ℕ, ◌*◌, ◌+◌, ◌-◌, ◌<◌, ◌∙◌, ◌≡◌, ◌≢◌, ◌≤◌, ◌⊎◌}
+use Rattle.ds_machine.proofs.Words.{Some, Tick, [], acting_due, acting_dues, actor_of, actors_differ, ap, arith, due_at, due_by, due_of_rank}
+use Rattle.ds_machine.proofs.Words.{geometry_rank, inl, inr, is_later, is_numbered, is_quiet, none-some, rank_of, reference_step, same_makes}
+use Rattle.ds_machine.proofs.Words.{same_or_not, subst, sym, true, true_or_false, ℕ, ◌*◌, ◌+◌, ◌-◌, ◌<◌, ◌∙◌, ◌≡◌, ◌≢◌, ◌≤◌, ◌⊎◌}
 use Rattle.ds_runs.specs.ScheduleLaws.{places_remaining}
 use Rattle.ds_runs.proofs.Places.{remaining_at, remaining_below}
 use Rattle.ds_machine.proofs.ActingDues.{acting_low, acting_of_rank, acts_where_due, due_where_acts, loud_by}
@@ -53,11 +53,11 @@ module _ (s next : MachineState) (tick : Tick) (rank : ℕ) (outs : List Shown) 
   acted_before q u ne h = inl (ne, ap (λ (dues : List (Option Tick)). due_at dues q) (sym since_caught.so.dues) ∙ h)
 
   -- geometry begins to act again only where the step was that of the least of all
-  quiet_since : (u : Tick) → rank ≢ 12 → is_quiet caught.io ≡ true → due_by Geometry caught ≡ Some u → acting_due Geometry next ≡ Some u
-      → MayThen caught rank tick → ActsSince s tick rank 12 u
+  quiet_since : (u : Tick) → rank ≢ geometry_rank → is_quiet caught.io ≡ true → due_by Geometry caught ≡ Some u → acting_due Geometry next ≡ Some u
+      → MayThen caught rank tick → ActsSince s tick rank geometry_rank u
   quiet_since u ne quiet due acts may = elim may [
-    | inl least ↦ elim (least.least 12 u (due_of_rank caught 12 (omega arith) ∙ due)) [
-      | inl lt ↦ later_then 12 u lt
+    | inl least ↦ elim (least.least geometry_rank u (due_of_rank caught geometry_rank (omega arith) ∙ due)) [
+      | inl lt ↦ later_then geometry_rank u lt
       | inr same ↦ (let e = same.0 in let le = same.1 in inr (omega (arith, e, le, ne)))
     ]
     | inr other ↦ absurd (none-some u (sym (quiet_acts_never next (still other)) ∙ acts))
@@ -66,20 +66,20 @@ module _ (s next : MachineState) (tick : Tick) (rank : ℕ) (outs : List Shown) 
     still (inl apart) = quiet_next caught rank tick since_caught.so.sound.parts apart quiet next outs acted.makes
     still (inr k) = ahead_quiet caught next k.0 rank outs since_caught.so.sound k.2 k.1 acted.makes ∙ quiet
 
-  geometry_since : (u : Tick) → rank ≢ 12 → due_by Geometry caught ≡ Some u → acting_due Geometry next ≡ Some u → ActsSince s tick rank 12 u
+  geometry_since : (u : Tick) → rank ≢ geometry_rank → due_by Geometry caught ≡ Some u → acting_due Geometry next ≡ Some u → ActsSince s tick rank geometry_rank u
   geometry_since u ne due acts = elim (true_or_false (is_quiet caught.io)) [
     | inl quiet ↦ quiet_since u ne quiet due acts since_caught.may
-    | inr loud ↦ acted_before 12 u (λ e. ne (sym e)) (acting_of_rank caught 12 (omega arith) ∙ loud_by caught loud Geometry ∙ due)
+    | inr loud ↦ acted_before geometry_rank u (λ e. ne (sym e)) (acting_of_rank caught geometry_rank (omega arith) ∙ loud_by caught loud Geometry ∙ due)
   ]
 
   kept_since : (q : ℕ) (u : Tick) → q < 24 → q ≢ rank → due_by (actor_of q) caught ≡ Some u → due_at (acting_dues next) q ≡ Some u → ActsSince s tick rank q u
-  kept_since q u low ne due acts = elim (same_or_not q 12) [
+  kept_since q u low ne due acts = elim (same_or_not q geometry_rank) [
     | inl same ↦
         (let P : ℕ → Type 0 = λ x. ActsSince s tick rank x u in
         subst P (sym same)
         (geometry_since u (λ e. ne (same ∙ sym e)) (subst (λ (x : ℕ). due_by (actor_of x) caught ≡ Some u) same due)
-        (sym (acting_of_rank next 12 (omega arith)) ∙ subst (λ (x : ℕ). due_at (acting_dues next) x ≡ Some u) same acts)))
-    | inr other ↦ acted_before q u ne (acting_of_rank caught q low ∙ acts_where_due (actor_of q) caught (actors_differ 12 q (omega arith) low other) ∙ due)
+        (sym (acting_of_rank next geometry_rank (omega arith)) ∙ subst (λ (x : ℕ). due_at (acting_dues next) x ≡ Some u) same acts)))
+    | inr other ↦ acted_before q u ne (acting_of_rank caught q low ∙ acts_where_due (actor_of q) caught (actors_differ geometry_rank q (omega arith) low other) ∙ due)
   ]
 
   pub acts_since : (q : ℕ) (u : Tick) → due_at (acting_dues next) q ≡ Some u → ActsSince s tick rank q u

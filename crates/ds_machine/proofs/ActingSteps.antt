@@ -2,10 +2,10 @@ use Rattle.ds_machine.proofs.Words.{ActsUnobserving, Bool, CatchesUpFor, Catches
 use Rattle.ds_machine.proofs.Words.{HasStatuses, IsAhead, IsLeast, IsSound, LeftOut, List, MachineState, MachineStep, Makes, MayAct, MayStep, Nine}
 use Rattle.ds_machine.proofs.Words.{NineState, Option, Proc, Runs, Seven, SevenState, Shown, Some, StepsBeforeGeometry, Stopped, Stops, Swapped}
 use Rattle.ds_machine.proofs.Words.{TakesGeometry, Tick, V4, WholeFrame, [], acting_dues, actor_of, actors_differ, ap, arith, counts_of, due_at}
-use Rattle.ds_machine.proofs.Words.{due_of_rank, dues_of, false, frames_shown, inl, inr, is_quiet, last_frame, last_lists, last_or, left_by}
-use Rattle.ds_machine.proofs.Words.{lists_shown, no_geometry, none-some, not_both, observes_by, one_step, own_tick, processor_due, processor_of}
-use Rattle.ds_machine.proofs.Words.{rank_of, reference, reference_step, refl, same_makes, same_or_not, subst, sym, true, true_or_false, true≢false, ℕ}
-use Rattle.ds_machine.proofs.Words.{◌++◌, ◌<◌, ◌^◌, ◌↔◌, ◌∙◌, ◌≡◌, ◌≤◌, ◌⊎◌}
+use Rattle.ds_machine.proofs.Words.{due_of_rank, dues_of, false, frames_shown, geometry_rank, inl, inr, is_quiet, last_frame, last_lists, last_or}
+use Rattle.ds_machine.proofs.Words.{left_by, lists_shown, no_geometry, none-some, not_both, observes_by, one_step, own_tick, processor_due}
+use Rattle.ds_machine.proofs.Words.{processor_of, rank_of, reference, reference_step, refl, same_makes, same_or_not, subst, sym, true, true_or_false}
+use Rattle.ds_machine.proofs.Words.{true≢false, ℕ, ◌++◌, ◌<◌, ◌^◌, ◌↔◌, ◌∙◌, ◌≡◌, ◌≤◌, ◌⊎◌}
 use Rattle.ds_machine.specs.FrameLaws.{FollowFrames, FollowLists}
 use Rattle.ds_runs.specs.Runs as runs
 use Rattle.ds_machine.specs.TurnLaws.{ActingMayStep, ActingRuns, ActingStops}
@@ -45,9 +45,9 @@ pub record CaughtUp (s caught : MachineState) (tick : Tick) (rank : ℕ) : Type 
   pub runs : (limit : ℕ) → tick.0 < limit → (end : Ending MachineState LeftOut) (outs : List Shown) → Runs reference limit end s outs ↔ Runs reference limit end caught outs
 
 -- where geometry acts it isn't quiet, so that all act that are due
-acts_loudly : (s : MachineState) (tick : Tick) → due_at (acting_dues s) 12 ≡ Some tick → acting_dues s ≡ dues_of s
+acts_loudly : (s : MachineState) (tick : Tick) → due_at (acting_dues s) geometry_rank ≡ Some tick → acting_dues s ≡ dues_of s
 acts_loudly s tick acts = elim (true_or_false (is_quiet s.io)) [
-  | inl quiet ↦ absurd (none-some tick (sym (quiet_acts_never s quiet) ∙ sym (acting_of_rank s 12 (omega arith)) ∙ acts))
+  | inl quiet ↦ absurd (none-some tick (sym (quiet_acts_never s quiet) ∙ sym (acting_of_rank s geometry_rank (omega arith)) ∙ acts))
   | inr loud ↦ loud_same s loud
 ]
 
@@ -110,8 +110,8 @@ module _ (s : MachineState) (proc : Proc) (sound : IsSound s) (ahead : IsAhead s
       let e = ap (λ (t : Tick). t.0) (own_tick s proc tick (by_rank proc ∙ subst (λ (r : ℕ). due_at (dues_of s) r ≡ Some tick) is due)) in
       omega (arith, lt, e) where
         by_rank : (proc : Proc) → processor_due s proc ≡ due_at (dues_of s) (rank_of proc)
-        by_rank Nine = sym (due_of_rank s 22 (omega arith))
-        by_rank Seven = sym (due_of_rank s 23 (omega arith))
+        by_rank Nine = sym (due_of_rank s (rank_of Nine) (omega arith))
+        by_rank Seven = sym (due_of_rank s (rank_of Seven) (omega arith))
 
   ahead_goes : (next : MachineState) (rank limit : ℕ) (outs : List Shown) → rank ≡ rank_of proc → (processor_of s proc).due < limit → reference_step rank s ≡ Makes next outs
       → (end : Ending MachineState LeftOut) (rest : List Shown) → Runs reference limit end s (outs ++ rest) ↔ Runs reference limit end next rest
@@ -130,11 +130,11 @@ module _ (s : MachineState) (proc : Proc) (sound : IsSound s) (ahead : IsAhead s
 
 -- that of the least that acts, which is the least of all where it is geometry
 pub apart_goes : (s : MachineState) (tick : Tick) (rank : ℕ) → IsSound s → ActsUnobserving s rank tick → IsLeast (dues_of s) tick rank ⊎ StepsBeforeGeometry s rank tick
-apart_goes s tick rank sound acts = elim (same_or_not rank 12) [
+apart_goes s tick rank sound acts = elim (same_or_not rank geometry_rank) [
   | inl same ↦
       (let loud = acts_loudly s tick (subst (λ (r : ℕ). due_at (acting_dues s) r ≡ Some tick) same acts.least.there) in
       inl (subst (λ (dues : List (Option Tick)). IsLeast dues tick rank) loud acts.least))
-  | inr ne ↦ inr (record { sound = sound; acts = acts; other = actors_differ 12 rank (omega arith) (acting_low s rank tick acts.least.there) ne })
+  | inr ne ↦ inr (record { sound = sound; acts = acts; other = actors_differ geometry_rank rank (omega arith) (acting_low s rank tick acts.least.there) ne })
 ]
 
 -- any of them, where geometry caught up

@@ -4,14 +4,15 @@ use Rattle.ds_machine.proofs.Words.{Proc, ProcessorState, SavedProcessor, ScanSt
 use Rattle.ds_machine.proofs.Words.{any_runs, ap, arith, around_of, asked_of, awaits_geometry, bit_and, bit_at, bit_at-zero, bit_at_and, bit_at_or}
 use Rattle.ds_machine.proofs.Words.{bit_not, bit_or, blocks_processor, both, both_true, card_due, card_stands, channel_at, channel_comes_before}
 use Rattle.ds_machine.proofs.Words.{channel_due, channels_format, comes_back, dma_due, dma_format, dma_format_by, dma_stands, due_by, due_number}
-use Rattle.ds_machine.proofs.Words.{due_of_rank, due_unless, due_with, dues_of, equal, events, false, gx_level, held_due, holds_by, if_false, if_true}
-use Rattle.ds_machine.proofs.Words.{if◌then◌else◌, inl, inr, io_of, irq_levelled, is_equal, is_half_empty, is_late, is_stalled, kept_twice, last_tick}
-use Rattle.ds_machine.proofs.Words.{late_runs_by, least_below, least_running, length, level, low_or_high, lt_cases, machine_format, machine_parts}
-use Rattle.ds_machine.proofs.Words.{max, memories_format, memory_size, nat_lt, not, not_false, processor_format, processor_of, processors_format}
-use Rattle.ds_machine.proofs.Words.{ready, refl, registers_format, release_of, released_again, same_from_bits, saved_channels, saved_memories}
-use Rattle.ds_machine.proofs.Words.{saved_processor, saved_processors, saved_units, scan_before, scan_due, scan_due_tick, scans_follow, script_from}
-use Rattle.ds_machine.proofs.Words.{shares_bit, sleeps_by, soon, subst, suc, sym, tick_of, timer_at, timer_due, true, true≢false, units_format, w32}
-use Rattle.ds_machine.proofs.Words.{waiting_entries, word_format, zero, ℕ, ◌&&◌, ◌+◌, ◌-◌, ◌<◌, ◌==◌, ◌^◌, ◌||◌, ◌∙◌, ◌∷◌, ◌≡◌, ◌≤◌}
+use Rattle.ds_machine.proofs.Words.{due_of_rank, due_unless, due_with, dues_of, equal, events, false, geometry_rank, gx_level, held_due, holds_by}
+use Rattle.ds_machine.proofs.Words.{if_false, if_true, if◌then◌else◌, inl, inr, io_of, irq_levelled, is_equal, is_half_empty, is_late, is_stalled}
+use Rattle.ds_machine.proofs.Words.{kept_twice, last_tick, late_runs_by, least_below, least_running, length, level, low_or_high, lt_cases}
+use Rattle.ds_machine.proofs.Words.{machine_format, machine_parts, max, memories_format, memory_size, nat_lt, not, not_false, processor_format}
+use Rattle.ds_machine.proofs.Words.{processor_of, processors_format, rank_of, ready, refl, registers_format, release_of, released_again}
+use Rattle.ds_machine.proofs.Words.{same_from_bits, saved_channels, saved_memories, saved_processor, saved_processors, saved_units, scan_before}
+use Rattle.ds_machine.proofs.Words.{scan_due, scan_due_tick, scans_follow, script_from, shares_bit, sleeps_by, soon, subst, suc, sym, tick_of}
+use Rattle.ds_machine.proofs.Words.{timer_at, timer_due, true, true≢false, units_format, w32, waiting_entries, word_format, zero, ℕ, ◌&&◌, ◌+◌, ◌-◌}
+use Rattle.ds_machine.proofs.Words.{◌<◌, ◌==◌, ◌^◌, ◌||◌, ◌∙◌, ◌∷◌, ◌≡◌, ◌≤◌}
 use Rattle.ds_machine.specs.Back.{HasMachineBounds, MachinesComeBack}
 use Rattle.std.proofs.lemmas.Nat.{and_le_l, and_le_r}
 use Rattle.std.proofs.lemmas.Nat.Bits.{bit_at-lt, bit_at_above, bit_at_not}
@@ -34,6 +35,8 @@ use Rattle.video2d.specs.Saved.{IsSavedVideo}
 use Rattle.vram_banks.proofs.SavedLaws.{banks_stand}
 use Rattle.ds_machine.proofs.Pairs.{◌⨾◌}
 use Rattle.ds_machine.specs.Saved.{own_due, saved_size}
+use Rattle.ds_runs.proofs.AllActors.{actor_rank}
+use Rattle.ds_runs.specs.declared.actors.Actor.TheVariants as who
 
 -- A machine at a tick stands for its bytes.
 
@@ -219,15 +222,15 @@ module _ (keys : List KeyLine) (at : ℕ) (s : MachineState) (early : at ≤ 2 ^
   irq_of_nine = let irq = bounds.units.irq Nine in record { ie = irq.ie; if_ = less_bits (bit_not w32 level) u.nine.irq.if_ irq.if_ }
 
   timers_late : (proc : Proc) (which : ℕ) → which < 4 → (tick : Tick) → timer_due (timer_at (io_of u proc).timers which) ≡ Some tick → at ≤ tick.0
-  timers_late Nine zero l = late 2 (omega arith)
-  timers_late Nine (suc zero) l = late 3 (omega arith)
-  timers_late Nine (suc (suc zero)) l = late 4 (omega arith)
-  timers_late Nine (suc (suc (suc zero))) l = late 5 (omega arith)
+  timers_late Nine zero l = late (actor_rank (who.Timer Nine 0)) (omega arith)
+  timers_late Nine (suc zero) l = late (actor_rank (who.Timer Nine 1)) (omega arith)
+  timers_late Nine (suc (suc zero)) l = late (actor_rank (who.Timer Nine 2)) (omega arith)
+  timers_late Nine (suc (suc (suc zero))) l = late (actor_rank (who.Timer Nine 3)) (omega arith)
   timers_late Nine (suc (suc (suc (suc n)))) l = absurd (omega (arith, l))
-  timers_late Seven zero l = late 6 (omega arith)
-  timers_late Seven (suc zero) l = late 7 (omega arith)
-  timers_late Seven (suc (suc zero)) l = late 8 (omega arith)
-  timers_late Seven (suc (suc (suc zero))) l = late 9 (omega arith)
+  timers_late Seven zero l = late (actor_rank (who.Timer Seven 0)) (omega arith)
+  timers_late Seven (suc zero) l = late (actor_rank (who.Timer Seven 1)) (omega arith)
+  timers_late Seven (suc (suc zero)) l = late (actor_rank (who.Timer Seven 2)) (omega arith)
+  timers_late Seven (suc (suc (suc zero))) l = late (actor_rank (who.Timer Seven 3)) (omega arith)
   timers_late Seven (suc (suc (suc (suc n)))) l = absurd (omega (arith, l))
 
   timer_anchored : (proc : Proc) (which : ℕ) → which < 4 → IsAnchoredAt at (timer_at (io_of u proc).timers which)
@@ -272,9 +275,9 @@ module _ (keys : List KeyLine) (at : ℕ) (s : MachineState) (early : at ≤ 2 ^
                 (
                   timers_stand at u.seven.timers early sound.parts.io.seven.timers (timer_anchored Seven),
                   (
-                    divider_stands at u.divider early b.divider (soon_holds at u.divider.due within.units.divider (late 10 (omega arith))),
+                    divider_stands at u.divider early b.divider (soon_holds at u.divider.due within.units.divider (late (actor_rank who.Divider) (omega arith))),
                     (
-                      root_stands at u.root early b.root (soon_holds at u.root.due within.units.root (late 11 (omega arith))),
+                      root_stands at u.root early b.root (soon_holds at u.root.due within.units.root (late (actor_rank who.SquareRoot) (omega arith))),
                       (
                         ipc_stands at u.ipc b.ipc,
                         (
@@ -297,17 +300,17 @@ module _ (keys : List KeyLine) (at : ℕ) (s : MachineState) (early : at ≤ 2 ^
 
   -- one of ARM7's that is due comes no earlier
   seven_late : (which : ℕ) → which < 4 → (tick : Tick) → channel_due u.seven.dma which ≡ Some tick → at ≤ tick.0
-  seven_late zero l = late 18 (omega arith)
-  seven_late (suc zero) l = late 19 (omega arith)
-  seven_late (suc (suc zero)) l = late 20 (omega arith)
-  seven_late (suc (suc (suc zero))) l = late 21 (omega arith)
+  seven_late zero l = late (actor_rank (who.Dma Seven 0)) (omega arith)
+  seven_late (suc zero) l = late (actor_rank (who.Dma Seven 1)) (omega arith)
+  seven_late (suc (suc zero)) l = late (actor_rank (who.Dma Seven 2)) (omega arith)
+  seven_late (suc (suc (suc zero))) l = late (actor_rank (who.Dma Seven 3)) (omega arith)
   seven_late (suc (suc (suc (suc n)))) l = absurd (omega (arith, l))
 
   nine_late : (which : ℕ) → which < 4 → (tick : Tick) → held_due (is_stalled u.gx) u.released (channel_due u.nine.dma which) ≡ Some tick → at ≤ tick.0
-  nine_late zero l = late 14 (omega arith)
-  nine_late (suc zero) l = late 15 (omega arith)
-  nine_late (suc (suc zero)) l = late 16 (omega arith)
-  nine_late (suc (suc (suc zero))) l = late 17 (omega arith)
+  nine_late zero l = late (actor_rank (who.Dma Nine 0)) (omega arith)
+  nine_late (suc zero) l = late (actor_rank (who.Dma Nine 1)) (omega arith)
+  nine_late (suc (suc zero)) l = late (actor_rank (who.Dma Nine 2)) (omega arith)
+  nine_late (suc (suc (suc zero))) l = late (actor_rank (who.Dma Nine 3)) (omega arith)
   nine_late (suc (suc (suc (suc n)))) l = absurd (omega (arith, l))
 
   least_due : (dma : DmaState) → channel_due dma (least_running dma.channels) ≡ ready dma.last (channel_at dma.channels (least_running dma.channels))
@@ -346,7 +349,7 @@ module _ (keys : List KeyLine) (at : ℕ) (s : MachineState) (early : at ≤ 2 ^
   seven_runs : is_late at (saved_processor s.seven.processor u.seven) ≡ true → any_runs u.seven.dma.channels ≡ true
   seven_runs =
       not_late u.seven.halted (any_runs u.seven.dma.channels) s.seven.processor.due
-      (due_unblocked (blocks_processor u.seven) s.seven.processor (late 23 (omega arith)))
+      (due_unblocked (blocks_processor u.seven) s.seven.processor (late (rank_of Seven) (omega arith)))
 
   channels_stand : StandsFor (channels_format (is_late at (saved_processor s.seven.processor u.seven))) at (saved_channels u)
   unfolding channels_format
@@ -376,7 +379,7 @@ module _ (keys : List KeyLine) (at : ℕ) (s : MachineState) (early : at ≤ 2 ^
       let scan = within.units.scan in
       let waits : scan_before at ≡ scan_before scan.0 =
       scans_follow.waits scan.0 at scan.1 (subst (λ (x : ScanState). at ≤ scan_due x) scan.2
-      (late 1 (omega arith) (scan_due_tick u.video.scan) refl)) in
+      (late (actor_rank who.Video) (omega arith) (scan_due_tick u.video.scan) refl)) in
       record { is = within.units.video; scan = scan.2 ∙ sym waits }
 
   gx_saved : IsSavedGx at u.gx
@@ -384,7 +387,7 @@ module _ (keys : List KeyLine) (at : ℕ) (s : MachineState) (early : at ≤ 2 ^
     is = bounds.units.gx;
     geometry = record { bounds = bounds.units.bounds.geometry; run = within.run; swap = within.units.swap; none = within.units.none };
     words = bounds.units.bounds.words;
-    due = soon_holds at u.gx.due within.units.gx (late 12 (omega arith));
+    due = soon_holds at u.gx.due within.units.gx (late geometry_rank (omega arith));
   }
 
   card_saved : IsCardAt s.file at u.card
@@ -393,7 +396,7 @@ module _ (keys : List KeyLine) (at : ℕ) (s : MachineState) (early : at ≤ 2 ^
     nine = bounds.units.card.nine;
     seven = bounds.units.card.seven;
     word = within.card.word;
-    due = soon_holds at (card_due u.card) within.units.card (late 13 (omega arith));
+    due = soon_holds at (card_due u.card) within.units.card (late (actor_rank who.Card) (omega arith));
   }
 
   -- ---- what is settled
@@ -449,7 +452,7 @@ module _ (keys : List KeyLine) (at : ℕ) (s : MachineState) (early : at ≤ 2 ^
   asks_hold =
       let hears = not_both _ (gx_level u.gx) (hears_low u.nine.halted (gx_level u.gx) refl refl) in
       let late = or_holds _ (is_stalled u.gx) (late_stalls u.nine.halted (any_runs u.nine.dma.channels) (is_stalled u.gx) s.nine.processor.due
-      (due_unblocked (blocks_processor u.nine || is_stalled u.gx) s.nine.processor (late 22 (omega arith)))) in
+      (due_unblocked (blocks_processor u.nine || is_stalled u.gx) s.nine.processor (late (rank_of Nine) (omega arith)))) in
       let waits = not_both _ (is_half_empty u.gx) (waits_filled (awaits_geometry u.nine.dma) (is_half_empty u.gx) settled.1) in
       both_true _ _ (both_true _ _ (both_true _ _ (ap not (wakes_not u.nine.halted refl)) hears) late) waits
 

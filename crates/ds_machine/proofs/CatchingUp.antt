@@ -2,10 +2,11 @@ use Rattle.ds_machine.proofs.Words.{Bool, CatchesUp, CatchesUpFor, CatchesUpIf, 
 use Rattle.ds_machine.proofs.Words.{GxState, HasBothStatuses, HasNineStatuses, HasStatuses, IoState, IsEarly, IsLater, IsLeast, IsSome, IsSound}
 use Rattle.ds_machine.proofs.Words.{LeftOut, List, MachineState, MachineStep, Makes, MayAct, NineState, None, Option, Runs, SevenState, Shown, Some}
 use Rattle.ds_machine.proofs.Words.{Swapped, TakesGeometry, Tick, V4, [], acting_dues, actor_of, and_parts, ap, arith, complete_command, counts_of}
-use Rattle.ds_machine.proofs.Words.{done_by, due_at, dues_of, false, geometry_after, gx_finished, if◌then◌else◌, inl, inr, io_event, is_behind}
-use Rattle.ds_machine.proofs.Words.{is_due_before, is_quiet, last_frame, last_lists, more_geometry, nat_lt, no_geometry, none-some, observes_by}
-use Rattle.ds_machine.proofs.Words.{one_step, rank_of, reference, reference_step, refl, same_Some, same_makes, subst, sym, tick_after, ticks_left}
-use Rattle.ds_machine.proofs.Words.{true, true_or_false, true≢false, with_gx, ℕ, ◌&&◌, ◌*◌, ◌+◌, ◌<◌, ◌==◌, ◌^◌, ◌||◌, ◌↔◌, ◌∙◌, ◌≡◌, ◌≤◌, ◌⊎◌}
+use Rattle.ds_machine.proofs.Words.{done_by, due_at, dues_of, false, geometry_after, geometry_rank, gx_finished, if◌then◌else◌, inl, inr, io_event}
+use Rattle.ds_machine.proofs.Words.{is_behind, is_due_before, is_quiet, last_frame, last_lists, more_geometry, nat_lt, no_geometry, none-some}
+use Rattle.ds_machine.proofs.Words.{observes_by, one_step, rank_of, reference, reference_step, refl, same_Some, same_makes, subst, sym, tick_after}
+use Rattle.ds_machine.proofs.Words.{ticks_left, true, true_or_false, true≢false, with_gx, ℕ, ◌&&◌, ◌*◌, ◌+◌, ◌<◌, ◌==◌, ◌^◌, ◌||◌, ◌↔◌, ◌∙◌, ◌≡◌, ◌≤◌}
+use Rattle.ds_machine.proofs.Words.{◌⊎◌}
 use Rattle.ds_runs.specs.declared.actors.Actor as actor
 use Rattle.ds_machine.proofs.ActingDues.{due_where_acts, loud_same}
 use Rattle.ds_machine.proofs.GeometryFirst.{ComesFirst, least_acting, least_geometry}
@@ -21,12 +22,12 @@ pub record Behind (tick rank : ℕ) (s : MachineState) : Type 0 where
   pub quiet : is_quiet s.io ≡ true
   pub next : Tick
   pub due : s.io.gx.due ≡ Some next
-  pub earlier : (next.0 < tick) ⊎ ((next.0 ≡ tick) × (12 < rank))
+  pub earlier : (next.0 < tick) ⊎ ((next.0 ≡ tick) × (geometry_rank < rank))
 
-earlier_place : (u tick rank : ℕ) → (nat_lt u tick || ((u == tick) && nat_lt 12 rank)) ≡ true → (u < tick) ⊎ ((u ≡ tick) × (12 < rank))
+earlier_place : (u tick rank : ℕ) → (nat_lt u tick || ((u == tick) && nat_lt geometry_rank rank)) ≡ true → (u < tick) ⊎ ((u ≡ tick) × (geometry_rank < rank))
 earlier_place u tick rank h = grind (arith, h)
 
-due_earlier : (due : Option Tick) (tick rank : ℕ) → is_due_before due tick rank ≡ true → (u : Tick) × (due ≡ Some u) × ((u.0 < tick) ⊎ ((u.0 ≡ tick) × (12 < rank)))
+due_earlier : (due : Option Tick) (tick rank : ℕ) → is_due_before due tick rank ≡ true → (u : Tick) × (due ≡ Some u) × ((u.0 < tick) ⊎ ((u.0 ≡ tick) × (geometry_rank < rank)))
 due_earlier None tick rank h = absurd (true≢false (sym h))
 due_earlier (Some u) tick rank h = (u, refl, earlier_place u.0 tick rank h)
 
@@ -39,14 +40,14 @@ behind_is tick rank s h =
 -- its next step is the least of all, and earlier than the place
 pub record BehindSteps (tick rank : ℕ) (s : MachineState) : Type 0 where
   pub next : Tick
-  pub least : IsLeast (dues_of s) next 12
+  pub least : IsLeast (dues_of s) next geometry_rank
   pub early : next.0 ≤ tick
-  pub earlier : 24 * next.0 + 12 < 24 * tick + rank
+  pub earlier : 24 * next.0 + geometry_rank < 24 * tick + rank
 
 pub behind_steps : (tick rank : ℕ) (s : MachineState) → ComesBeforeAll tick rank s → is_behind tick rank s ≡ true → BehindSteps tick rank s
 behind_steps tick rank s before h =
     let k = behind_is tick rank s h in
-    let first : ComesFirst k.next.0 12 tick rank = elim k.earlier [ inl lt ↦ inl lt | inr same ↦ (let low = same.1 in inr (same.0, omega (arith, low))) ] in
+    let first : ComesFirst k.next.0 geometry_rank tick rank = elim k.earlier [ inl lt ↦ inl lt | inr same ↦ (let low = same.1 in inr (same.0, omega (arith, low))) ] in
     record {
       next = k.next;
       least = least_geometry s k.next k.due tick rank before first;
@@ -121,7 +122,7 @@ then_so s mid now a b =
       observes = λ a₁. b.observes a₁ ∙ a.observes a₁;
     }
 
-taken_so : (tick rank : ℕ) (s next : MachineState) → IsSound s → is_behind tick rank s ≡ true → reference_step 12 s ≡ Makes next [] → CaughtSo s next
+taken_so : (tick rank : ℕ) (s next : MachineState) → IsSound s → is_behind tick rank s ≡ true → reference_step geometry_rank s ≡ Makes next [] → CaughtSo s next
 taken_so tick rank s next sound behind makes =
     let quiet = (behind_is tick rank s behind).quiet in
     subst (CaughtSo s) (same_makes (late_put (gx_finished s.io.gx) s) next [] [] (sym (quiet_step s sound quiet) ∙ makes)).0 (step_so s sound quiet)
@@ -149,10 +150,10 @@ still_before tick rank s now sound before takes other at h =
     before other at (subst (λ (dues : List (Option Tick)). due_at dues other ≡ Some at) (caught_so tick rank s now sound takes).dues h)
 
 -- once geometry caught up with the least acting actor, that is the least of all
-later_place : (u tick rank : ℕ) → (nat_lt u tick || ((u == tick) && nat_lt 12 rank)) ≡ false → ComesFirst tick rank u 12
+later_place : (u tick rank : ℕ) → (nat_lt u tick || ((u == tick) && nat_lt geometry_rank rank)) ≡ false → ComesFirst tick rank u geometry_rank
 later_place u tick rank h = grind (arith, h)
 
-level_first : (quiet : Bool) (due : Option Tick) (u : Tick) (tick rank : ℕ) → quiet ≡ true → due ≡ Some u → (quiet && is_due_before due tick rank) ≡ false → ComesFirst tick rank u.0 12
+level_first : (quiet : Bool) (due : Option Tick) (u : Tick) (tick rank : ℕ) → quiet ≡ true → due ≡ Some u → (quiet && is_due_before due tick rank) ≡ false → ComesFirst tick rank u.0 geometry_rank
 level_first quiet due u tick rank q d h =
     later_place u.0 tick rank
     (ap (λ (b : Bool). b && is_due_before (Some u) tick rank) (sym q) ∙ ap (λ (o : Option Tick). quiet && is_due_before o tick rank) (sym d) ∙ h)
@@ -190,7 +191,7 @@ takes_runs tick rank limit s now sound before (more_geometry start mid next take
     let k = behind_steps tick rank mid (still_before tick rank start mid sound before takes) behind in
     let earlier = k.earlier in
     let first = takes_runs tick rank limit start mid sound before takes le end outs in
-    let last = one_step reference limit end mid next [] outs k.next 12 k.least (omega (arith, earlier, le)) makes in
+    let last = one_step reference limit end mid next [] outs k.next geometry_rank k.least (omega (arith, earlier, le)) makes in
     (λ run. last.0 (first.0 run), λ run. first.1 (last.1 run))
 
 pub catching_up_runs : CatchingUpRuns
@@ -203,7 +204,7 @@ fewer : (n : ℕ) (u : Tick) (due : Option Tick) → IsLater u due → u.0 < n �
 fewer n u None later lt = omega (arith, lt)
 fewer n u (Some v) later lt = omega (arith, later, lt)
 
-pub fewer_left : (tick rank : ℕ) (s next : MachineState) → IsSound s → is_behind tick rank s ≡ true → reference_step 12 s ≡ Makes next []
+pub fewer_left : (tick rank : ℕ) (s next : MachineState) → IsSound s → is_behind tick rank s ≡ true → reference_step geometry_rank s ≡ Makes next []
     → ticks_left (tick + 1) next.io.gx.due < ticks_left (tick + 1) s.io.gx.due
 fewer_left tick rank s next sound behind makes =
     let k = behind_is tick rank s behind in
@@ -227,13 +228,13 @@ behind_early tick rank s behind early =
 abbrev event_made : MachineState → IoState → MachineStep MachineState Shown LeftOut
 event_made s u = Makes (record s { io = u; events = s.events + 1 }) []
 
-event_alone : (s : MachineState) → IsSound s → is_quiet s.io ≡ true → reference_step 12 s ≡ event_made s (io_event [] Geometry s.io)
+event_alone : (s : MachineState) → IsSound s → is_quiet s.io ≡ true → reference_step geometry_rank s ≡ event_made s (io_event [] Geometry s.io)
 event_alone s sound quiet =
     quiet_step s sound quiet
     ∙ ap (λ (b : Bool). event_made s (record s.io { gx = gx_finished s.io.gx; released = if b then tick_after s.io.gx.due s.io.released else s.io.released }))
     (sym (no_stall_ends s (quiet_parts s.io quiet).free))
 
-pub quiet_event : (old s : MachineState) (u : IoState) → old ≡ s → IsSound s → is_quiet s.io ≡ true → u ≡ io_event [] Geometry old.io → reference_step 12 s ≡ event_made old u
+pub quiet_event : (old s : MachineState) (u : IoState) → old ≡ s → IsSound s → is_quiet s.io ≡ true → u ≡ io_event [] Geometry old.io → reference_step geometry_rank s ≡ event_made old u
 quiet_event old s u same sound quiet is =
     event_alone s sound quiet ∙ ap (λ (m : MachineState). event_made m (io_event [] Geometry m.io)) (sym same) ∙ ap (event_made old) (sym is)
 

@@ -38,11 +38,11 @@ low_rank s rank tick h = let k = within (dues_of s) rank tick h in let e = entri
 
 -- a processor's
 pub rank_there : (s : MachineState) (proc : Proc) → due_at (dues_of s) (rank_of proc) ≡ processor_due s proc
-rank_there s Nine = due_of_rank s 22 (omega arith)
-rank_there s Seven = due_of_rank s 23 (omega arith)
+rank_there s Nine = due_of_rank s (rank_of Nine) (omega arith)
+rank_there s Seven = due_of_rank s (rank_of Seven) (omega arith)
 
 -- the last two ranks are the processors'
-pub sort_rank : (rank : ℕ) → rank < 24 → (rank < 22) ⊎ ((rank ≡ 22) ⊎ (rank ≡ 23))
+pub sort_rank : (rank : ℕ) → rank < 24 → (rank < rank_of Nine) ⊎ ((rank ≡ rank_of Nine) ⊎ (rank ≡ rank_of Seven))
 sort_rank rank lt = grind (arith, lt)
 
 -- the list by its parts: all actors but the processors, and the processors
@@ -56,19 +56,19 @@ alone (Some one) = refl
 
 -- the first of a list's parts is the least in it
 pub least_by_parts : (dues events : List (Option Tick)) (nine seven : Option Tick) (first : Due) → dues ≡ events ++ nine ∷ seven ∷ []
-    → Some first ≡ earlier (first_from 0 events) (earlier (due_with_rank 22 nine) (due_with_rank 23 seven)) → length events ≡ 22 → IsLeast dues first.tick first.rank
+    → Some first ≡ earlier (first_from 0 events) (earlier (due_with_rank (rank_of Nine) nine) (due_with_rank (rank_of Seven) seven)) → length events ≡ rank_of Nine → IsLeast dues first.tick first.rank
 least_by_parts dues events nine seven first split h long =
-    let at : length events + 0 ≡ 22 = omega (arith, long) in
-    let there : Option Due = due_with_rank 22 nine in
+    let at : length events + 0 ≡ rank_of Nine = omega (arith, long) in
+    let there : Option Due = due_with_rank (rank_of Nine) nine in
     let all : first_from 0 dues ≡ Some first =
     ap (λ (dues : List (Option Tick)). first_from 0 dues) split
     ∙ first_of_append 0 events (nine ∷ seven ∷ [])
     ∙ ap (λ (n : ℕ). earlier (first_from 0 events) (first_from n (nine ∷ seven ∷ []))) at
-    ∙ ap (λ (d : Option Due). earlier (first_from 0 events) (earlier there d)) (alone (due_with_rank 23 seven)) ∙ sym h in
+    ∙ ap (λ (d : Option Due). earlier (first_from 0 events) (earlier there d)) (alone (due_with_rank (rank_of Seven) seven)) ∙ sym h in
     first_is_least dues first all
 
 pub first_found : (s : MachineState) (first : Due)
-    → Some first ≡ earlier (first_from 0 (events_of s)) (earlier (due_with_rank 22 (processor_due s Nine)) (due_with_rank 23 (processor_due s Seven)))
+    → Some first ≡ earlier (first_from 0 (events_of s)) (earlier (due_with_rank (rank_of Nine) (processor_due s Nine)) (due_with_rank (rank_of Seven) (processor_due s Seven)))
     → IsLeast (dues_of s) first.tick first.rank
 first_found s first h = least_by_parts (dues_of s) (events_of s) (processor_due s Nine) (processor_due s Seven) first (dues_split s) h refl
 

@@ -28,7 +28,7 @@ end_kept next_event s until is some n =
 -- what is due before it is below the limit of a turn and below the fence
 pub below_end : (until end : ℕ) (s : MachineState) (proc : Proc) (tick : Tick) → IsTurnEnd until s end → tick.0 < end → (tick.0 < until) × IsBelowFence s proc tick
 below_end until end s proc tick is lt = (((is tick.0).0 lt).0, λ rank at there f. below rank at there f (sort_rank rank (acting_low s rank at there))) where
-  below : (rank : ℕ) (at : Tick) → due_at (acting_dues s) rank ≡ Some at → Fences (actor_of rank) proc s → (rank < 22) ⊎ ((rank ≡ 22) ⊎ (rank ≡ 23)) → tick.0 < at.0
+  below : (rank : ℕ) (at : Tick) → due_at (acting_dues s) rank ≡ Some at → Fences (actor_of rank) proc s → (rank < rank_of Nine) ⊎ ((rank ≡ rank_of Nine) ⊎ (rank ≡ rank_of Seven)) → tick.0 < at.0
   below rank at there f (inl event) = ((is tick.0).0 lt).1 rank at event there
   below rank at there f (inr (inl e)) = absurd (no_fence s proc Nine rank e f)
   below rank at there f (inr (inr e)) = absurd (no_fence s proc Seven rank e f)
@@ -167,7 +167,7 @@ events_same : (s next : MachineState) → Beside s next → acting_events_of nex
 events_same s next b =
     ap (λ (u : IoState). keys_due next.keys ∷ acting_io_dues u) b.io ∙ ap (λ (lines : List KeyLine). keys_due lines ∷ acting_io_dues s.io) b.keys
 
-event_same : (s next : MachineState) (event : ℕ) (at : Tick) → Beside s next → event < 22 → due_at (acting_dues next) event ≡ Some at → due_at (acting_dues s) event ≡ Some at
+event_same : (s next : MachineState) (event : ℕ) (at : Tick) → Beside s next → event < rank_of Nine → due_at (acting_dues next) event ≡ Some at → due_at (acting_dues s) event ≡ Some at
 event_same s next event at b low h =
     (event_in s event at (ap (λ (dues : List (Option Tick)). due_at dues event) (sym (events_same s next b)) ∙ event_there next event at low h)).1
 

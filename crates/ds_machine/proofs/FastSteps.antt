@@ -2,9 +2,10 @@ use Rattle.ds_machine.proofs.Words.{AreAsleep, Bool, Cost, Due, IoState, IsIo, I
 use Rattle.ds_machine.proofs.Words.{Makes, NextEvent, Nine, Option, Proc, Processor, ProcessorState, Seven, Shown, Some, Tick, [], acting_dues}
 use Rattle.ds_machine.proofs.Words.{acting_events_of, acting_io_dues, ap, arith, awake, due_at, due_then, due_unless, ended, false, first_from}
 use Rattle.ds_machine.proofs.Words.{first_is_least, goes_on, if◌then◌else◌, inl, inr, io_of, is_blocked, is_held, is_settled, keys_due, length}
-use Rattle.ds_machine.proofs.Words.{line_is_up, line_of, lt_or_same, machine_concluded, outcome_of, processor_due, processor_of, refl, same_Some}
-use Rattle.ds_machine.proofs.Words.{settled_stays, shares_bit, sort_rank, step_by, stepped_of, subst, suc, sym, tick_is, tick_of, true, true≢false}
-use Rattle.ds_machine.proofs.Words.{wakes, went_on, with_io, with_processor, woken, woken_one, zero, ℕ, ◌&&◌, ◌++◌, ◌<◌, ◌^◌, ◌∙◌, ◌∷◌, ◌≡◌, ◌≤◌, ◌⊎◌}
+use Rattle.ds_machine.proofs.Words.{line_is_up, line_of, lt_or_same, machine_concluded, outcome_of, processor_due, processor_of, rank_of, refl}
+use Rattle.ds_machine.proofs.Words.{same_Some, settled_stays, shares_bit, sort_rank, step_by, stepped_of, subst, suc, sym, tick_is, tick_of, true}
+use Rattle.ds_machine.proofs.Words.{true≢false, wakes, went_on, with_io, with_processor, woken, woken_one, zero, ℕ, ◌&&◌, ◌++◌, ◌<◌, ◌^◌, ◌∙◌, ◌∷◌}
+use Rattle.ds_machine.proofs.Words.{◌≡◌, ◌≤◌, ◌⊎◌}
 use Rattle.ds_machine.specs.NextEvents.{IsNextEvent, least_kept, least_of, due_at_least}
 use Rattle.ds_machine.specs.declared.answers.Done.TheVariants as answers
 use Rattle.ds_machine.proofs.ActingDues.{acting_low, acting_processor, acting_split}
@@ -28,22 +29,22 @@ in_front [] ys rank lt = absurd (omega (arith, lt))
 in_front (x ∷ xs) ys zero lt = refl
 in_front (x ∷ xs) ys (suc rank) lt = in_front xs ys rank (omega (arith, lt))
 
-pub event_there : (s : MachineState) (rank : ℕ) (at : Tick) → rank < 22 → due_at (acting_dues s) rank ≡ Some at → due_at (acting_events_of s) rank ≡ Some at
+pub event_there : (s : MachineState) (rank : ℕ) (at : Tick) → rank < rank_of Nine → due_at (acting_dues s) rank ≡ Some at → due_at (acting_events_of s) rank ≡ Some at
 event_there s rank at lt h =
     let back = processor_due s Nine ∷ processor_due s Seven ∷ [] in
     sym (in_front (acting_events_of s) back rank lt) ∙ ap (λ (dues : List (Option Tick)). due_at dues rank) (sym (acting_split s)) ∙ h
 
-nine_there : (s : MachineState) (rank : ℕ) (at : Tick) → rank ≡ 22 → due_at (acting_dues s) rank ≡ Some at → processor_due s Nine ≡ Some at
+nine_there : (s : MachineState) (rank : ℕ) (at : Tick) → rank ≡ rank_of Nine → due_at (acting_dues s) rank ≡ Some at → processor_due s Nine ≡ Some at
 nine_there s rank at e h = sym (acting_processor s Nine) ∙ subst (λ (r : ℕ). due_at (acting_dues s) r ≡ Some at) e h
 
-seven_there : (s : MachineState) (rank : ℕ) (at : Tick) → rank ≡ 23 → due_at (acting_dues s) rank ≡ Some at → processor_due s Seven ≡ Some at
+seven_there : (s : MachineState) (rank : ℕ) (at : Tick) → rank ≡ rank_of Seven → due_at (acting_dues s) rank ≡ Some at → processor_due s Seven ≡ Some at
 seven_there s rank at e h = sym (acting_processor s Seven) ∙ subst (λ (r : ℕ). due_at (acting_dues s) r ≡ Some at) e h
 
 -- ARM9 is the least, where no event acts at its tick or before it, and ARM7 isn't due before it
 nine_least : (s : MachineState) (until : ℕ) (tick : Tick) → IsOver (acting_events_of s) until → tick.0 < until → processor_due s Nine ≡ Some tick
-    → ((at : Tick) → processor_due s Seven ≡ Some at → tick.0 ≤ at.0) → IsLeast (acting_dues s) tick 22
+    → ((at : Tick) → processor_due s Seven ≡ Some at → tick.0 ≤ at.0) → IsLeast (acting_dues s) tick (rank_of Nine)
 nine_least s until tick over lt there after = record { there = acting_processor s Nine ∙ there; least = go } where
-  go : (other : ℕ) (at : Tick) → due_at (acting_dues s) other ≡ Some at → (tick.0 < at.0) ⊎ ((tick.0 ≡ at.0) × (22 ≤ other))
+  go : (other : ℕ) (at : Tick) → due_at (acting_dues s) other ≡ Some at → (tick.0 < at.0) ⊎ ((tick.0 ≡ at.0) × (rank_of Nine ≤ other))
   go other at h = elim (sort_rank other (acting_low s other at h)) [
     | inl event ↦ inl (let k = over other at (event_there s other at event h) in omega (arith, k, lt))
     | inr rest ↦ elim rest [
@@ -54,9 +55,9 @@ nine_least s until tick over lt there after = record { there = acting_processor 
 
 -- and ARM7, where ARM9 is due after it
 seven_least : (s : MachineState) (until : ℕ) (tick : Tick) → IsOver (acting_events_of s) until → tick.0 < until → processor_due s Seven ≡ Some tick
-    → ((at : Tick) → processor_due s Nine ≡ Some at → tick.0 < at.0) → IsLeast (acting_dues s) tick 23
+    → ((at : Tick) → processor_due s Nine ≡ Some at → tick.0 < at.0) → IsLeast (acting_dues s) tick (rank_of Seven)
 seven_least s until tick over lt there after = record { there = acting_processor s Seven ∙ there; least = go } where
-  go : (other : ℕ) (at : Tick) → due_at (acting_dues s) other ≡ Some at → (tick.0 < at.0) ⊎ ((tick.0 ≡ at.0) × (23 ≤ other))
+  go : (other : ℕ) (at : Tick) → due_at (acting_dues s) other ≡ Some at → (tick.0 < at.0) ⊎ ((tick.0 ≡ at.0) × (rank_of Seven ≤ other))
   go other at h = elim (sort_rank other (acting_low s other at h)) [
     | inl event ↦ inl (let k = over other at (event_there s other at event h) in omega (arith, k, lt))
     | inr rest ↦ elim rest [

@@ -1,42 +1,45 @@
 use Rattle.ds_machine.proofs.Words.{Card, Divider, Dma, Due, Fences, Geometry, IsAhead, IsBelowFence, IsFence, IsLeast, IsPrivate, KeyScript}
 use Rattle.ds_machine.proofs.Words.{MachineState, Nine, None, Option, Proc, Processor, Seven, Some, SquareRoot, Tick, Timer, Video, [], acting_due}
 use Rattle.ds_machine.proofs.Words.{acting_dues, acting_io_due, actor_of, ap, arith, card_due_for, card_starter, due_at, due_of_actor, due_with_rank}
-use Rattle.ds_machine.proofs.Words.{earlier, first_from, first_is_least, first_of_append, keys_due, least_unique, length, none-some, own_tick}
-use Rattle.ds_machine.proofs.Words.{processor_due, rank_of, refl, same_Some, scan_due_tick, subst, sym, within, ℕ, ◌++◌, ◌<◌, ◌∙◌, ◌∷◌, ◌≡◌, ◌≤◌}
+use Rattle.ds_machine.proofs.Words.{earlier, first_from, first_is_least, first_of_append, geometry_rank, keys_due, least_unique, length, none-some}
+use Rattle.ds_machine.proofs.Words.{own_tick, processor_due, rank_of, refl, same_Some, scan_due_tick, subst, sym, within, ℕ, ◌++◌, ◌<◌, ◌∙◌, ◌∷◌, ◌≡◌}
+use Rattle.ds_machine.proofs.Words.{◌≤◌}
 use Rattle.ds_machine.specs.FenceTicks.{fence_due, channel_dues, fence_dues, timer_dues}
 use Rattle.ds_card.proofs.Schedules.{due_for_starter, starter_of_due}
 use Rattle.ds_runs.specs.declared.actors.Actor as actor
 use Rattle.ds_machine.proofs.ActingDues.{acting_low, acting_of_rank, acting_processor}
 use Rattle.ds_machine.proofs.DueTicks.{alone}
+use Rattle.ds_runs.proofs.AllActors.{actor_rank}
+use Rattle.ds_runs.specs.declared.actors.Actor.TheVariants as who
 
 -- The first of those that may halt a processor, wake it or make it wait.
 
 -- ---- by parts
 
 pub nine_by_parts : (s : MachineState) → first_from 0 (fence_dues s Nine)
-    ≡ earlier (due_with_rank 0 (keys_due s.keys)) (earlier (due_with_rank 1 (Some (scan_due_tick s.io.video.scan)))
-    (earlier (first_from 2 (timer_dues s.io Nine)) (earlier (due_with_rank 12 (acting_io_due Geometry s.io))
-    (earlier (due_with_rank 13 (card_due_for Nine s.io.card)) (first_from 14 (channel_dues s.io Nine))))))
+    ≡ earlier (due_with_rank (actor_rank who.KeyScript) (keys_due s.keys)) (earlier (due_with_rank (actor_rank who.Video) (Some (scan_due_tick s.io.video.scan)))
+    (earlier (first_from (actor_rank (who.Timer Nine 0)) (timer_dues s.io Nine)) (earlier (due_with_rank geometry_rank (acting_io_due Geometry s.io))
+    (earlier (due_with_rank (actor_rank who.Card) (card_due_for Nine s.io.card)) (first_from (actor_rank (who.Dma Nine 0)) (channel_dues s.io Nine))))))
 unfolding fence_dues
 nine_by_parts s =
     let timers = timer_dues s.io Nine in
     let channels = channel_dues s.io Nine in
     let rest = None ∷ None ∷ None ∷ None ∷ None ∷ None ∷ [] in
-    let front : Option Due → Option Due = λ d. earlier (due_with_rank 0 (keys_due s.keys)) (earlier (due_with_rank 1 (Some (scan_due_tick s.io.video.scan))) d) in
-    ap front (first_of_append 2 timers (None ∷ None ∷ None ∷ None ∷ None ∷ None ∷ acting_io_due Geometry s.io ∷ card_due_for Nine s.io.card ∷ channels ++ rest)
-    ∙ ap (λ (d : Option Due). earlier (first_from 2 timers) (earlier (due_with_rank 12 (acting_io_due Geometry s.io)) (earlier (due_with_rank 13 (card_due_for Nine s.io.card)) d)))
-    (first_of_append 14 channels rest ∙ alone (first_from 14 channels)))
+    let front : Option Due → Option Due = λ d. earlier (due_with_rank (actor_rank who.KeyScript) (keys_due s.keys)) (earlier (due_with_rank (actor_rank who.Video) (Some (scan_due_tick s.io.video.scan))) d) in
+    ap front (first_of_append (actor_rank (who.Timer Nine 0)) timers (None ∷ None ∷ None ∷ None ∷ None ∷ None ∷ acting_io_due Geometry s.io ∷ card_due_for Nine s.io.card ∷ channels ++ rest)
+    ∙ ap (λ (d : Option Due). earlier (first_from (actor_rank (who.Timer Nine 0)) timers) (earlier (due_with_rank geometry_rank (acting_io_due Geometry s.io)) (earlier (due_with_rank (actor_rank who.Card) (card_due_for Nine s.io.card)) d)))
+    (first_of_append (actor_rank (who.Dma Nine 0)) channels rest ∙ alone (first_from (actor_rank (who.Dma Nine 0)) channels)))
 
 pub seven_by_parts : (s : MachineState) → first_from 0 (fence_dues s Seven)
-    ≡ earlier (due_with_rank 0 (keys_due s.keys)) (earlier (due_with_rank 1 (Some (scan_due_tick s.io.video.scan)))
-    (earlier (first_from 6 (timer_dues s.io Seven)) (earlier (due_with_rank 13 (card_due_for Seven s.io.card)) (first_from 18 (channel_dues s.io Seven)))))
+    ≡ earlier (due_with_rank (actor_rank who.KeyScript) (keys_due s.keys)) (earlier (due_with_rank (actor_rank who.Video) (Some (scan_due_tick s.io.video.scan)))
+    (earlier (first_from (actor_rank (who.Timer Seven 0)) (timer_dues s.io Seven)) (earlier (due_with_rank (actor_rank who.Card) (card_due_for Seven s.io.card)) (first_from (actor_rank (who.Dma Seven 0)) (channel_dues s.io Seven)))))
 unfolding fence_dues
 seven_by_parts s =
     let timers = timer_dues s.io Seven in
     let channels = channel_dues s.io Seven in
-    let front : Option Due → Option Due = λ d. earlier (due_with_rank 0 (keys_due s.keys)) (earlier (due_with_rank 1 (Some (scan_due_tick s.io.video.scan))) d) in
-    ap front (first_of_append 6 timers (None ∷ None ∷ None ∷ card_due_for Seven s.io.card ∷ None ∷ None ∷ None ∷ None ∷ channels ++ None ∷ None ∷ [])
-    ∙ ap (λ (d : Option Due). earlier (first_from 6 timers) (earlier (due_with_rank 13 (card_due_for Seven s.io.card)) d)) (first_of_append 18 channels (None ∷ None ∷ []) ∙ alone (first_from 18 channels)))
+    let front : Option Due → Option Due = λ d. earlier (due_with_rank (actor_rank who.KeyScript) (keys_due s.keys)) (earlier (due_with_rank (actor_rank who.Video) (Some (scan_due_tick s.io.video.scan))) d) in
+    ap front (first_of_append (actor_rank (who.Timer Seven 0)) timers (None ∷ None ∷ None ∷ card_due_for Seven s.io.card ∷ None ∷ None ∷ None ∷ None ∷ channels ++ None ∷ None ∷ [])
+    ∙ ap (λ (d : Option Due). earlier (first_from (actor_rank (who.Timer Seven 0)) timers) (earlier (due_with_rank (actor_rank who.Card) (card_due_for Seven s.io.card)) d)) (first_of_append (actor_rank (who.Dma Seven 0)) channels (None ∷ None ∷ []) ∙ alone (first_from (actor_rank (who.Dma Seven 0)) channels)))
 
 -- whom an actor fences off is told by the card alone
 pub fences_as : (a : actor.Actor) (proc : Proc) (s t : MachineState) → t.io.card ≡ s.io.card → Fences a proc t → Fences a proc s

@@ -40,13 +40,13 @@ pub record IsDueAt (s : MachineState) (proc : Proc) (n : ℕ) : Type 0 where
 
 -- ---- an event that acts
 
-pub event_in : (s : MachineState) (rank : ℕ) (at : Tick) → due_at (acting_events_of s) rank ≡ Some at → (rank < 22) × (due_at (acting_dues s) rank ≡ Some at)
+pub event_in : (s : MachineState) (rank : ℕ) (at : Tick) → due_at (acting_events_of s) rank ≡ Some at → (rank < rank_of Nine) × (due_at (acting_dues s) rank ≡ Some at)
 event_in s rank at h =
     let back = processor_due s Nine ∷ processor_due s Seven ∷ [] in
     let lt = within (acting_events_of s) rank at h in
     (omega (arith, lt), ap (λ (dues : List (Option Tick)). due_at dues rank) (acting_split s) ∙ in_front (acting_events_of s) back rank lt ∙ h)
 
-pub above_events : (proc : Proc) → 22 ≤ rank_of proc
+pub above_events : (proc : Proc) → rank_of Nine ≤ rank_of proc
 above_events Nine = omega arith
 above_events Seven = omega arith
 
@@ -109,7 +109,7 @@ ahead_data s proc n d ahead = subst (λ (t : Tick). DataStaysPrivate t s proc) (
 -- ---- the other processor's tick
 
 -- the other processor's rank
-pub across : (proc : Proc) (other : ℕ) → (other ≡ 22) ⊎ (other ≡ 23) → other ≢ rank_of proc → other ≡ rank_of (other_proc proc)
+pub across : (proc : Proc) (other : ℕ) → (other ≡ rank_of Nine) ⊎ (other ≡ rank_of Seven) → other ≢ rank_of proc → other ≡ rank_of (other_proc proc)
 across Nine other (inl e) ne = absurd (ne e)
 across Nine other (inr e) ne = e
 across Seven other (inl e) ne = e
@@ -133,7 +133,7 @@ pub free_by : (blocked : Bool) → least_of blocked ≡ 0 → blocked ≡ false
 free_by true e = absurd (omega (arith, e))
 free_by false e = refl
 
-pub not_own : (proc : Proc) (rank : ℕ) → rank < 22 → rank ≢ rank_of proc
+pub not_own : (proc : Proc) (rank : ℕ) → rank < rank_of Nine → rank ≢ rank_of proc
 not_own Nine rank low = λ e. omega (arith, low, e)
 not_own Seven rank low = λ e. omega (arith, low, e)
 

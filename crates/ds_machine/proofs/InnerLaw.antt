@@ -3,9 +3,9 @@ use Rattle.ds_machine.proofs.Words.{List, MachineState, MachineStep, Makes, Nine
 use Rattle.ds_machine.proofs.Words.{ProcessorState, ProcessorStaysPrivate, RegisterState, Seven, SevenReach, SevenState, Shown, Some, StaysPrivate}
 use Rattle.ds_machine.proofs.Words.{Tick, [], ap, arith, awake, due_by, due_unless, enters, false, is_beyond_seven, is_blocked, is_deaf, is_settled}
 use Rattle.ds_machine.proofs.Words.{is_shown_to_nine, line_of, machine_concluded, mixed, mixed_length, mixed_same, mixed_twice, nine_memory}
-use Rattle.ds_machine.proofs.Words.{nine_own_of, nine_reach, nine_side, processor_due, processor_of, reference_step, refl, seven_memory, seven_reach}
-use Rattle.ds_machine.proofs.Words.{seven_side, shared_put, shares_bit, side_taken, side_waits, steps_as, subst, sym, tick_of, true, went_on}
-use Rattle.ds_machine.proofs.Words.{with_nine, with_nine_own, with_processor, with_seven, with_seven_part, ℕ, ◌&&◌, ◌+◌, ◌<◌, ◌∙◌, ◌≡◌, ◌≢◌}
+use Rattle.ds_machine.proofs.Words.{nine_own_of, nine_reach, nine_side, processor_due, processor_of, rank_of, reference_step, refl, seven_memory}
+use Rattle.ds_machine.proofs.Words.{seven_reach, seven_side, shared_put, shares_bit, side_taken, side_waits, steps_as, subst, sym, tick_of, true}
+use Rattle.ds_machine.proofs.Words.{went_on, with_nine, with_nine_own, with_processor, with_seven, with_seven_part, ℕ, ◌&&◌, ◌+◌, ◌<◌, ◌∙◌, ◌≡◌, ◌≢◌}
 use Rattle.arm_core.specs.declared.outcomes.Stepped as arm
 use Rattle.ds_ports.specs.Io.{with_shares}
 use Rattle.ds_runs.specs.declared.actors.Actor as actor
@@ -167,7 +167,7 @@ put_after s rest own registers clocks =
     ap (λ (xs : List ℕ). with_bytes xs (mixed apart share.vram.bytes s.io.vram.bytes)) (sym (mixed_twice shown share.shared rest.map.memories.shared s.shared))
     ∙ ap (with_bytes (shared_put after.share s.shared)) (sym (mixed_twice apart share.vram.bytes rest.map.io.vram.bytes s.io.vram.bytes))
 
-pub inner_nine : (rest : NineReach) (s : MachineState) → IsCalm s → IsHarmless s Nine → reference_step 22 s ≡ Makes (with_nine_own (after_nine rest (nine_own_of s)) s) []
+pub inner_nine : (rest : NineReach) (s : MachineState) → IsCalm s → IsHarmless s Nine → reference_step (rank_of Nine) s ≡ Makes (with_nine_own (after_nine rest (nine_own_of s)) s) []
 inner_nine rest s calm h =
     let tick = tick_of s.nine.processor in
     let a = nine_taken rest s h in
@@ -175,21 +175,21 @@ inner_nine rest s calm h =
     let m = with_nine s (costing a.registers (put_nine own (nine_reach tick s)) a.clocks) in
     let came : MachineStep MachineState Shown LeftOut = Makes (with_nine_own (after_nine rest (nine_own_of s)) s) [] in
     let made : MachineState → MachineStep MachineState Shown LeftOut = λ next. Makes next [] in
-    steps_as s 22 (Processor Nine) (Some tick) came refl (due_there s Nine h.free)
-    (ap (λ (o : Outcome NineReach). awake (Some tick) (machine_concluded 22 Nine (with_nine s o) o.stepped)) a.here
-    ∙ cost_ends m 22 Nine tick a.clocks (io_stays m.io.vram m.io.wramcnt s.io calm.io) calm.settled (asleep_by s m refl refl calm.asleep) h.free
+    steps_as s (rank_of Nine) (Processor Nine) (Some tick) came refl (due_there s Nine h.free)
+    (ap (λ (o : Outcome NineReach). awake (Some tick) (machine_concluded (rank_of Nine) Nine (with_nine s o) o.stepped)) a.here
+    ∙ cost_ends m (rank_of Nine) Nine tick a.clocks (io_stays m.io.vram m.io.wramcnt s.io calm.io) calm.settled (asleep_by s m refl refl calm.asleep) h.free
     ∙ ap made (put_after s rest own a.registers a.clocks)
     ∙ ap (λ (o : Outcome NineReach). made (with_nine_own (nine_by (nine_own_of s) o) s)) (sym a.there))
 
-pub inner_seven : (rest : SevenReach) (s : MachineState) → IsCalm s → IsHarmless s Seven → reference_step 23 s ≡ Makes (with_seven_part (after_seven rest s.seven) s) []
+pub inner_seven : (rest : SevenReach) (s : MachineState) → IsCalm s → IsHarmless s Seven → reference_step (rank_of Seven) s ≡ Makes (with_seven_part (after_seven rest s.seven) s) []
 inner_seven rest s calm h =
     let tick = tick_of s.seven.processor in
     let a = seven_taken rest s h in
     let m = with_seven s (costing a.registers (put_seven a.own (seven_reach tick s)) a.clocks) in
     let came : MachineStep MachineState Shown LeftOut = Makes (with_seven_part (after_seven rest s.seven) s) [] in
-    steps_as s 23 (Processor Seven) (Some tick) came refl (due_there s Seven h.free)
-    (ap (λ (o : Outcome SevenReach). awake (Some tick) (machine_concluded 23 Seven (with_seven s o) o.stepped)) a.here
-    ∙ cost_ends m 23 Seven tick a.clocks calm.io calm.settled calm.asleep h.free
+    steps_as s (rank_of Seven) (Processor Seven) (Some tick) came refl (due_there s Seven h.free)
+    (ap (λ (o : Outcome SevenReach). awake (Some tick) (machine_concluded (rank_of Seven) Seven (with_seven s o) o.stepped)) a.here
+    ∙ cost_ends m (rank_of Seven) Seven tick a.clocks calm.io calm.settled calm.asleep h.free
     ∙ ap (λ (o : Outcome SevenReach). (let step : MachineStep MachineState Shown LeftOut = Makes (with_seven_part (seven_by s.seven o) s) [] in step)) (sym a.there))
 
 -- after it the processor is due later

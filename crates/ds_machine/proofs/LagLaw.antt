@@ -1,9 +1,9 @@
 use Rattle.ds_machine.proofs.Words.{AreWaiting, Geometry, GxState, HasSoundParts, IsLater, IsLeast, IsNumbered, IsSound, LagRuns, LagStops, LeftOut}
 use Rattle.ds_machine.proofs.Words.{List, MachineState, MachineStep, Makes, MayLag, MayStepFirst, None, Option, Reschedules, Shown, Some, StepsBefore}
 use Rattle.ds_machine.proofs.Words.{StepsBeforeGeometry, Stops, Tick, [], acting_due, acting_dues, actor_of, actors, any_armed, ap, arith, at_rank}
-use Rattle.ds_machine.proofs.Words.{awake, due_at, due_by, due_of_least, due_of_rank, dues_of, ended, false, gx_finished, inl, inr, is_later}
-use Rattle.ds_machine.proofs.Words.{is_quiet, is_some, is_stalled, least_unique, reference, reference_step, refl, same_makes, step_by, step_with}
-use Rattle.ds_machine.proofs.Words.{steps_as, subst, sym, true, true_or_false, ℕ, ◌<◌, ◌∙◌, ◌≡◌, ◌≢◌, ◌≤◌, ◌⊎◌}
+use Rattle.ds_machine.proofs.Words.{awake, due_at, due_by, due_of_least, due_of_rank, dues_of, ended, false, geometry_rank, gx_finished, inl, inr}
+use Rattle.ds_machine.proofs.Words.{is_later, is_quiet, is_some, is_stalled, least_unique, reference, reference_step, refl, same_makes, step_by}
+use Rattle.ds_machine.proofs.Words.{step_with, steps_as, subst, sym, true, true_or_false, ℕ, ◌<◌, ◌∙◌, ◌≡◌, ◌≢◌, ◌≤◌, ◌⊎◌}
 use Rattle.ds_runs.specs.declared.actors.Actor as actor
 use Rattle.ds_runs.proofs.Lags as lags
 use Rattle.ds_machine.proofs.ActingDues.{acting_low, acting_of_rank, acts_where_due, loud_same, maps_same}
@@ -23,7 +23,7 @@ module _ (s : MachineState) (r : ℕ) (t : Tick) (b : StepsBeforeGeometry s r t)
   own_low : r < 24
   own_low = acting_low s r t b.acts.least.there
 
-  not_twelve : r ≢ 12
+  not_twelve : r ≢ geometry_rank
   not_twelve same = b.other (subst (λ (x : ℕ). actor_of x ≡ Geometry) (sym same) refl)
 
   own_due : due_by (actor_of r) s ≡ Some t
@@ -34,33 +34,33 @@ module _ (s : MachineState) (r : ℕ) (t : Tick) (b : StepsBeforeGeometry s r t)
 
 -- ---- it is the least, or quiet geometry is
 
-steps_first : (s : MachineState) (r : ℕ) (t : Tick) → StepsBeforeGeometry s r t → MayStepFirst reference 12 r s t
+steps_first : (s : MachineState) (r : ℕ) (t : Tick) → StepsBeforeGeometry s r t → MayStepFirst reference geometry_rank r s t
 steps_first s r t b = record { other = not_twelve s r t b; there = own_there s r t b; least = go } where
-  go : IsLeast (dues_of s) t r ⊎ ((u : Tick) × IsLeast (dues_of s) u 12 × (u.0 ≤ t.0))
+  go : IsLeast (dues_of s) t r ⊎ ((u : Tick) × IsLeast (dues_of s) u geometry_rank × (u.0 ≤ t.0))
   go = elim (true_or_false (is_quiet s.io)) [
     | inr loud ↦ inl (subst (λ (dues : List (Option Tick)). IsLeast dues t r) (loud_same s loud) b.acts.least)
     | inl quiet ↦ (let k = quiet_parts s.io quiet in
-        elim (one_first k.tick.0 12 t.0 r) [
-          | inl late ↦ inr (k.tick, least_geometry s k.tick k.due t.0 r (λ other at h. b.acts.least.least other at h) late, not_later k.tick.0 12 t.0 r late)
+        elim (one_first k.tick.0 geometry_rank t.0 r) [
+          | inl late ↦ inr (k.tick, least_geometry s k.tick k.due t.0 r (λ other at h. b.acts.least.least other at h) late, not_later k.tick.0 geometry_rank t.0 r late)
           | inr early ↦ inl (least_acting s k.tick k.due t r b.acts.least (own_there s r t b) early)
         ])
   ]
 
 -- ---- geometry's step that is due before it
 
-module _ (s : MachineState) (r : ℕ) (t u : Tick) (b : StepsBeforeGeometry s r t) (least : IsLeast (dues_of s) u 12) where
+module _ (s : MachineState) (r : ℕ) (t u : Tick) (b : StepsBeforeGeometry s r t) (least : IsLeast (dues_of s) u geometry_rank) where
   is_quiet_then : is_quiet s.io ≡ true
   is_quiet_then = elim (true_or_false (is_quiet s.io)) [
     | inl quiet ↦ quiet
     | inr loud ↦ (let same = subst (λ (dues : List (Option Tick)). IsLeast dues t r) (loud_same s loud) b.acts.least in
-        absurd (not_twelve s r t b (least_unique (dues_of s) t r u 12 same least).1))
+        absurd (not_twelve s r t b (least_unique (dues_of s) t r u geometry_rank same least).1))
   ]
 
   is_due_then : s.io.gx.due ≡ Some u
-  is_due_then = due_of_least s 12 u least
+  is_due_then = due_of_least s geometry_rank u least
 
   is_before : u.0 ≤ t.0
-  is_before = not_later u.0 12 t.0 r (least.least r t (own_there s r t b))
+  is_before = not_later u.0 geometry_rank t.0 r (least.least r t (own_there s r t b))
 
   abbrev finished : GxState
   finished = gx_finished s.io.gx
@@ -78,11 +78,11 @@ module _ (s : MachineState) (r : ℕ) (t u : Tick) (b : StepsBeforeGeometry s r 
     other = b.other;
   }
 
-  geometry_steps : StepsBefore reference 12 r StepsBeforeGeometry s t u
+  geometry_steps : StepsBefore reference geometry_rank r StepsBeforeGeometry s t u
   geometry_steps = record {
     next = late_put finished s;
     makes = quiet_step s b.sound is_quiet_then;
-    later = subst (IsLater u) (sym (due_of_rank (late_put finished s) 12 (omega arith))) after_it.later;
+    later = subst (IsLater u) (sym (due_of_rank (late_put finished s) geometry_rank (omega arith))) after_it.later;
     still = waits_still;
   }
 
@@ -172,7 +172,7 @@ module _ (s made : MachineState) (r : ℕ) (t : Tick) (outs : List Shown) (b : S
 
 -- ---- the two steps in either order
 
-module _ (s late : MachineState) (r : ℕ) (t u : Tick) (b : StepsBeforeGeometry s r t) (least : IsLeast (dues_of s) u 12) (goes : reference_step 12 s ≡ Makes late []) where
+module _ (s late : MachineState) (r : ℕ) (t u : Tick) (b : StepsBeforeGeometry s r t) (least : IsLeast (dues_of s) u geometry_rank) (goes : reference_step geometry_rank s ≡ Makes late []) where
   quiet : is_quiet s.io ≡ true
   quiet = is_quiet_then s r t u b least
 
@@ -205,9 +205,9 @@ module _ (s late : MachineState) (r : ℕ) (t u : Tick) (b : StepsBeforeGeometry
   halts left stop h = (late_put g left, there (Stops stop left) (awake_stops (due_by (actor_of r) s) (step_by r (actor_of r) s) left stop h))
 
   module _ (next : MachineState) (outs : List Shown) (k : Steps s next r t outs) where
-    least_still : IsLeast (dues_of next) u 12
-    least_still = record { there = due_of_rank next 12 (omega arith) ∙ ap (λ (x : GxState). x.due) k.gx ∙ is_due_then s r t u b least; least = go } where
-      go : (other : ℕ) (at : Tick) → due_at (dues_of next) other ≡ Some at → (u.0 < at.0) ⊎ ((u.0 ≡ at.0) × (12 ≤ other))
+    least_still : IsLeast (dues_of next) u geometry_rank
+    least_still = record { there = due_of_rank next geometry_rank (omega arith) ∙ ap (λ (x : GxState). x.due) k.gx ∙ is_due_then s r t u b least; least = go } where
+      go : (other : ℕ) (at : Tick) → due_at (dues_of next) other ≡ Some at → (u.0 < at.0) ⊎ ((u.0 ≡ at.0) × (geometry_rank ≤ other))
       go other at h = elim (at_rank t (dues_of s) (dues_of next) (moves_all t s next k.moves) other) [
         | inl same ↦ least.least other at (sym same ∙ h)
         | inr later ↦ (let lt = is_later t (due_at (dues_of next) other) at later h in let le = is_before s r t u b least in inl (omega (arith, lt, le)))
@@ -227,12 +227,12 @@ module _ (s late : MachineState) (r : ℕ) (t u : Tick) (b : StepsBeforeGeometry
         quiet_where_due next.io (ap (λ (x : GxState). x.selector) k.gx ∙ q.selector) k.arms (ap (λ (x : GxState). is_stalled x) k.gx ∙ q.free)
         ∙ ap is_some (ap (λ (x : GxState). x.due) k.gx ∙ q.due)
 
-    geometry_after_it : reference_step 12 next ≡ Makes (late_put g next) []
+    geometry_after_it : reference_step geometry_rank next ≡ Makes (late_put g next) []
     geometry_after_it =
         quiet_step next k.sound still_quiet
         ∙ ap (λ (x : GxState). (let step : MachineStep MachineState Shown LeftOut = Makes (late_put (gx_finished x) next) [] in step)) k.gx
 
-pub may_lag : MayLag reference 12 StepsBeforeGeometry
+pub may_lag : MayLag reference geometry_rank StepsBeforeGeometry
 may_lag = record {
   first = steps_first;
   steps = λ s r t u b least. geometry_steps s r t u b least;
@@ -245,7 +245,7 @@ may_lag = record {
 }
 
 pub lag_runs : LagRuns
-lag_runs s next rank tick limit outs b lt h end rest = lags.lag_agrees reference 12 StepsBeforeGeometry may_lag limit end outs rest s next rank tick b lt h
+lag_runs s next rank tick limit outs b lt h end rest = lags.lag_agrees reference geometry_rank StepsBeforeGeometry may_lag limit end outs rest s next rank tick b lt h
 
 pub lag_stops : LagStops
-lag_stops s after rank tick limit stop b lt h = lags.lag_stops reference 12 StepsBeforeGeometry may_lag limit s after rank tick stop b lt h
+lag_stops s after rank tick limit stop b lt h = lags.lag_stops reference geometry_rank StepsBeforeGeometry may_lag limit s after rank tick stop b lt h

@@ -4,11 +4,12 @@ use Rattle.ds_machine.proofs.Words.{Option, Past, Place, Port, Proc, Processor, 
 use Rattle.ds_machine.proofs.Words.{Width, Word, Write, [], access_observes, acting_due, acting_dues, actors, after_geometry, and_parts, any_armed}
 use Rattle.ds_machine.proofs.Words.{any_observes, ap, awaits_geometry, blocks_processor, channel_due, complete_command, data_accesses, decoded_arm}
 use Rattle.ds_machine.proofs.Words.{decoded_thumb, dma_due, done_by, due_by, due_unless, ended, enters, equal, false, fetched, fetched_at}
-use Rattle.ds_machine.proofs.Words.{fetched_half, fetched_word, finished_later, finished_waiting, gx_finished, gx_level, held_due, if◌then◌else◌}
-use Rattle.ds_machine.proofs.Words.{irq_levelled, is_equal, is_half_empty, is_quiet, is_settled, is_some, is_stalled, is_thumb, line_of, map_fetched}
-use Rattle.ds_machine.proofs.Words.{max, nine_memory, nine_observes, nine_reach, nine_side, no_stall_begins, not, not-true, observes_by, one_event}
-use Rattle.ds_machine.proofs.Words.{place_of, reference_step, refl, release_by, release_of, stall_ends, steps_as, sym, tcm_of, tick_after, tick_of}
-use Rattle.ds_machine.proofs.Words.{true, true≢false, wakes, with_gx, with_io, with_processor, ℕ, ◌%◌, ◌&&◌, ◌==◌, ◌^◌, ◌||◌, ◌∙◌, ◌∷◌, ◌≡◌, ◌≢◌}
+use Rattle.ds_machine.proofs.Words.{fetched_half, fetched_word, finished_later, finished_waiting, geometry_rank, gx_finished, gx_level, held_due}
+use Rattle.ds_machine.proofs.Words.{if◌then◌else◌, irq_levelled, is_equal, is_half_empty, is_quiet, is_settled, is_some, is_stalled, is_thumb}
+use Rattle.ds_machine.proofs.Words.{line_of, map_fetched, max, nine_memory, nine_observes, nine_reach, nine_side, no_stall_begins, not, not-true}
+use Rattle.ds_machine.proofs.Words.{observes_by, one_event, place_of, reference_step, refl, release_by, release_of, stall_ends, steps_as, sym, tcm_of}
+use Rattle.ds_machine.proofs.Words.{tick_after, tick_of, true, true≢false, wakes, with_gx, with_io, with_processor, ℕ, ◌%◌, ◌&&◌, ◌==◌, ◌^◌, ◌||◌}
+use Rattle.ds_machine.proofs.Words.{◌∙◌, ◌∷◌, ◌≡◌, ◌≢◌}
 use Rattle.ds_machine.proofs.NineReads.{tcm_fetched}
 use Rattle.ds_runs.specs.declared.actors.Actor as actor
 use Rattle.ds_machine.proofs.ActingDues.{maps_same}
@@ -122,7 +123,7 @@ geometry_late s h =
     (one_event (with_io s (record s.io { gx = gx_finished s.io.gx; released = if b then tick_after s.io.gx.due s.io.released else s.io.released })))
     (record s.nine.processor { due = if b && not s.io.nine.halted then max s.nine.processor.due (tick_after s.io.gx.due s.nine.processor.due) else s.nine.processor.due })) h
 
-pub quiet_step : (s : MachineState) → IsSound s → is_quiet s.io ≡ true → reference_step 12 s ≡ Makes (late_put (gx_finished s.io.gx) s) []
+pub quiet_step : (s : MachineState) → IsSound s → is_quiet s.io ≡ true → reference_step geometry_rank s ≡ Makes (late_put (gx_finished s.io.gx) s) []
 quiet_step s sound quiet =
     let k = quiet_parts s.io quiet in
     let late = late_put (gx_finished s.io.gx) s in
@@ -130,7 +131,7 @@ quiet_step s sound quiet =
     let same : ended k.tick (after_geometry s) ≡ late =
     ap (ended k.tick) (geometry_late s (no_stall_ends s k.free)) ∙ end_stays k.tick late after.parts.io after.settled after.asleep in
     let came : MachineStep MachineState Shown LeftOut = Makes late [] in
-    steps_as s 12 Geometry (Some k.tick) came refl k.due (ap (λ (m : MachineState). (let step : MachineStep MachineState Shown LeftOut = Makes m [] in step)) same)
+    steps_as s geometry_rank Geometry (Some k.tick) came refl k.due (ap (λ (m : MachineState). (let step : MachineStep MachineState Shown LeftOut = Makes m [] in step)) same)
 
 -- ---- when the others are due
 

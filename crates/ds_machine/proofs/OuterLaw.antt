@@ -4,9 +4,9 @@ use Rattle.ds_machine.proofs.Words.{MachineStep, Makes, MayRunAhead, MovesOn, Ni
 use Rattle.ds_machine.proofs.Words.{RunsAhead, Seven, SevenReach, SevenState, Shown, Some, SquareRoot, Stops, Tick, Timer, Video, [], acting_dues}
 use Rattle.ds_machine.proofs.Words.{actor_of, actors_differ, ahead_from_own, and_parts, ap, arith, awaits_geometry, awake, bit_and, bit_at}
 use Rattle.ds_machine.proofs.Words.{bit_at_and, bit_at_or, bit_not, bit_or, blocks_processor, card_due_for, channel_due, dma_due, due_at, due_by}
-use Rattle.ds_machine.proofs.Words.{due_of_least, due_of_rank, due_unless, dues_of, ended, enters, equal, false, goes_on, gx_finished, gx_level}
-use Rattle.ds_machine.proofs.Words.{hears_nobody, if◌then◌else◌, inl, inr, io_of, ipc_bits, irq_levelled, is_blocked, is_half_empty, is_halted}
-use Rattle.ds_machine.proofs.Words.{is_quiet, is_settled, is_stalled, keys_due, level, level_told, line_of, low_rank, machine_settled}
+use Rattle.ds_machine.proofs.Words.{due_of_least, due_of_rank, due_unless, dues_of, ended, enters, equal, false, geometry_rank, goes_on, gx_finished}
+use Rattle.ds_machine.proofs.Words.{gx_level, hears_nobody, if◌then◌else◌, inl, inr, io_of, ipc_bits, irq_levelled, is_blocked, is_half_empty}
+use Rattle.ds_machine.proofs.Words.{is_halted, is_quiet, is_settled, is_stalled, keys_due, level, level_told, line_of, low_rank, machine_settled}
 use Rattle.ds_machine.proofs.Words.{moves_of_actors, nine_own_of, nine_reach, not, not-true, not_both, processor_io_triggered, processor_of, rank_of}
 use Rattle.ds_machine.proofs.Words.{reference, reference_step, refl, release_by, release_of, same_from_bits, same_makes, scan_due_tick, settled}
 use Rattle.ds_machine.proofs.Words.{seven_reach, step_by, step_with, subst, sym, tick_of, timer_at, timer_due, true, true_or_false, w32, wakes}
@@ -252,19 +252,19 @@ below_so proc s next t l below rank at acts f =
 -- ---- who steps before it
 
 due_own : (proc : Proc) (s : MachineState) (t : Tick) → RunsAhead proc s t → due_at (dues_of s) (rank_of proc) ≡ Some t
-due_own Nine s t ahead = due_of_rank s 22 (omega arith) ∙ ap (λ (blocked : Bool). due_unless blocked s.nine.processor) ahead.harmless.free ∙ ap Some (sym ahead.tick)
-due_own Seven s t ahead = due_of_rank s 23 (omega arith) ∙ ap (λ (blocked : Bool). due_unless blocked s.seven.processor) ahead.harmless.free ∙ ap Some (sym ahead.tick)
+due_own Nine s t ahead = due_of_rank s (rank_of Nine) (omega arith) ∙ ap (λ (blocked : Bool). due_unless blocked s.nine.processor) ahead.harmless.free ∙ ap Some (sym ahead.tick)
+due_own Seven s t ahead = due_of_rank s (rank_of Seven) (omega arith) ∙ ap (λ (blocked : Bool). due_unless blocked s.seven.processor) ahead.harmless.free ∙ ap Some (sym ahead.tick)
 
 -- the least of the others isn't in its fence, and isn't the processor; or it is quiet geometry, which isn't in ARM7's fence
 abbrev IsApartFrom : Proc → MachineState → ℕ → Type 0
-IsApartFrom proc s r = (Fences (actor_of r) proc s → ⊥) ⊎ ((proc ≡ Nine) × (r ≡ 12) × (is_quiet s.io ≡ true))
+IsApartFrom proc s r = (Fences (actor_of r) proc s → ⊥) ⊎ ((proc ≡ Nine) × (r ≡ geometry_rank) × (is_quiet s.io ≡ true))
 
 acts_after : (proc : Proc) (s : MachineState) (t u : Tick) (r : ℕ) → RunsAhead proc s t → IsLeast (dues_of s) u r → due_at (acting_dues s) r ≡ Some u → Fences (actor_of r) proc s → ⊥
 acts_after proc s t u r ahead least acts f =
     let later : t.0 < u.0 = ahead.below r u acts f in
     elim (least.least (rank_of proc) t (due_own proc s t ahead)) [ inl a ↦ omega (arith, later, a) | inr b ↦ (let e = b.0 in omega (arith, later, e)) ]
 
-quiet_apart : (proc : Proc) (s : MachineState) (r : ℕ) → r ≡ 12 → is_quiet s.io ≡ true → IsApartFrom proc s r
+quiet_apart : (proc : Proc) (s : MachineState) (r : ℕ) → r ≡ geometry_rank → is_quiet s.io ≡ true → IsApartFrom proc s r
 quiet_apart Nine s r e quiet = inr (refl, e, quiet)
 quiet_apart Seven s r e quiet = inl (λ f. proc_differs (sym (subst (λ (x : ℕ). Fences (actor_of x) Seven s) e f)))
 
@@ -278,8 +278,8 @@ apart_from proc s t u r ahead least = elim (true_or_false (is_quiet s.io)) [
 ]
 
 not_own : (proc : Proc) (s : MachineState) (u : Tick) (r : ℕ) → IsLeast (dues_of s) u r → r ≢ rank_of proc → actor_of r ≢ Processor proc
-not_own Nine s u r least ne = actors_differ 22 r (omega arith) (low_rank s r u least.there) ne
-not_own Seven s u r least ne = actors_differ 23 r (omega arith) (low_rank s r u least.there) ne
+not_own Nine s u r least ne = actors_differ (rank_of Nine) r (omega arith) (low_rank s r u least.there) ne
+not_own Seven s u r least ne = actors_differ (rank_of Seven) r (omega arith) (low_rank s r u least.there) ne
 
 -- the outer law, but for what the step comes to with another own part
 record Outer (proc : Proc) (s next : MachineState) (t u : Tick) (r : ℕ) (outs : List Shown) : Type 0 where
@@ -321,9 +321,9 @@ outer_step proc s next t u r outs ahead least ne apart h =
 alone_moves : (proc : Proc) (s next : MachineState) → MovesAlone proc s next → MovesOn (rank_of proc) (tick_of (processor_of s proc)) (dues_of s) (dues_of next)
 unfolding dues_of
 alone_moves Nine s next m =
-    moves_of_actors (λ (a : actor.Actor). due_by a s) (λ (a : actor.Actor). due_by a next) 22 (tick_of s.nine.processor) (omega arith) m.there m.later (λ a numbered other. m.others a other)
+    moves_of_actors (λ (a : actor.Actor). due_by a s) (λ (a : actor.Actor). due_by a next) (rank_of Nine) (tick_of s.nine.processor) (omega arith) m.there m.later (λ a numbered other. m.others a other)
 alone_moves Seven s next m =
-    moves_of_actors (λ (a : actor.Actor). due_by a s) (λ (a : actor.Actor). due_by a next) 23 (tick_of s.seven.processor) (omega arith) m.there m.later (λ a numbered other. m.others a other)
+    moves_of_actors (λ (a : actor.Actor). due_by a s) (λ (a : actor.Actor). due_by a next) (rank_of Seven) (tick_of s.seven.processor) (omega arith) m.there m.later (λ a numbered other. m.others a other)
 
 -- ---- a step of quiet geometry before it: nobody hears of it, and it changes no due tick but its own
 
@@ -363,11 +363,11 @@ put_sound own s sound = record {
   asleep Seven = sound.asleep Seven
 
 late_there : (own : NineOwn) (s : MachineState) → IsSound s → is_quiet s.io ≡ true
-    → reference_step 12 (with_nine_own own s) ≡ Makes (with_nine_own own (late_put (gx_finished s.io.gx) s)) []
+    → reference_step geometry_rank (with_nine_own own s) ≡ Makes (with_nine_own own (late_put (gx_finished s.io.gx) s)) []
 late_there own s sound quiet = quiet_step (with_nine_own own s) (put_sound own s sound) quiet
 
 -- it doesn't stop
-never_stops : (s left : MachineState) (stop : LeftOut) → IsSound s → is_quiet s.io ≡ true → reference_step 12 s ≡ Stops stop left → ⊥
+never_stops : (s left : MachineState) (stop : LeftOut) → IsSound s → is_quiet s.io ≡ true → reference_step geometry_rank s ≡ Stops stop left → ⊥
 never_stops s left stop sound quiet h = not_both (late_put (gx_finished s.io.gx) s) left [] stop (sym (quiet_step s sound quiet) ∙ h)
 
 -- ---- both laws
@@ -375,14 +375,14 @@ never_stops s left stop sound quiet h = not_both (late_put (gx_finished s.io.gx)
 -- where quiet geometry steps before a processor's step, the outer law holds
 abbrev PassesQuiet : {Own : Type 0} → Proc → (Own → MachineState → MachineState) → (MachineState → Own) → Type 0
 PassesQuiet proc put after =
-    (s next : MachineState) (t : Tick) (outs : List Shown) → proc ≡ Nine → RunsAhead proc s t → is_quiet s.io ≡ true → reference_step 12 s ≡ Makes next outs
-    → (reference_step 12 (put (after s) s) ≡ Makes (put (after s) next) outs) × (after next ≡ after s) × RunsAhead proc next t
+    (s next : MachineState) (t : Tick) (outs : List Shown) → proc ≡ Nine → RunsAhead proc s t → is_quiet s.io ≡ true → reference_step geometry_rank s ≡ Makes next outs
+    → (reference_step geometry_rank (put (after s) s) ≡ Makes (put (after s) next) outs) × (after next ≡ after s) × RunsAhead proc next t
 
 nine_passes : (rest : NineReach) → PassesQuiet Nine with_nine_own (λ s. after_nine rest (nine_own_of s))
 nine_passes rest s next t outs nine ahead quiet h =
     let after : MachineState → NineOwn = λ m. after_nine rest (nine_own_of m) in
     let same = same_makes (late_put (gx_finished s.io.gx) s) next [] outs (sym (quiet_step s ahead.sound quiet) ∙ h) in
-    let P : MachineState → Type 0 = λ m. (reference_step 12 (with_nine_own (after s) s) ≡ Makes (with_nine_own (after s) m) outs) × (after m ≡ after s) × RunsAhead Nine m t in
+    let P : MachineState → Type 0 = λ m. (reference_step geometry_rank (with_nine_own (after s) s) ≡ Makes (with_nine_own (after s) m) outs) × (after m ≡ after s) × RunsAhead Nine m t in
     subst P same.0 (
       late_there (after s) s ahead.sound quiet ∙ ap (λ (shown : List Shown). (let came : MachineStep MachineState Shown LeftOut = Makes (with_nine_own (after s) (late_put (gx_finished s.io.gx) s)) shown in came)) same.1,
       refl,
@@ -443,13 +443,13 @@ module _ (proc : Proc) {Own : Type 0} (put : Own → MachineState → MachineSta
 pub may_run_ahead : (beside : MachineState) (proc : Proc) → MayRunAhead reference (rank_of proc) (RunsAhead proc)
 may_run_ahead beside Nine =
     let rest = nine_reach (tick_of beside.nine.processor) beside in
-    ahead_from_own reference 22 with_nine_own (λ s. after_nine rest (nine_own_of s)) (RunsAhead Nine)
+    ahead_from_own reference (rank_of Nine) with_nine_own (λ s. after_nine rest (nine_own_of s)) (RunsAhead Nine)
     (own_part Nine with_nine_own (λ s. after_nine rest (nine_own_of s)) (λ own s. IsSharedSo own.share s.shared s.io)
     (λ rank a own s other apart fits. leave_nine_own rank a own s (other, apart) fits) ends_nine_own (inner_nine rest) (nine_moves rest) (nine_fits rest)
     (λ s next l. ap (after_nine rest) l.own) (nine_passes rest))
 may_run_ahead beside Seven =
     let rest = seven_reach (tick_of beside.seven.processor) beside in
-    ahead_from_own reference 23 with_seven_part (λ s. after_seven rest s.seven) (RunsAhead Seven)
+    ahead_from_own reference (rank_of Seven) with_seven_part (λ s. after_seven rest s.seven) (RunsAhead Seven)
     (own_part Seven with_seven_part (λ s. after_seven rest s.seven) (λ own s. Unit {0})
     (λ rank a own s other apart fits. leave_seven rank a s own (none_of_seven a s other apart)) seven_ended (inner_seven rest) (seven_moves rest) (λ s h. tt)
     (λ s next l. ap (after_seven rest) l.own) (seven_passes rest))

@@ -23,8 +23,8 @@ quiet_turn until s proc b = elim b.goes [
 -- what came of it
 came_of : (s next : MachineState) (proc : Proc) (tick : Tick) (outs : List Shown) → processor_due s proc ≡ Some tick → reference_step (rank_of proc) s ≡ Makes next outs
     → awake (Some tick) (step_by (rank_of proc) (Processor proc) s) ≡ Makes next outs
-came_of s next Nine tick outs due h = subst (λ (o : Option Tick). awake o (step_by 22 (Processor Nine) s) ≡ Makes next outs) due h
-came_of s next Seven tick outs due h = subst (λ (o : Option Tick). awake o (step_by 23 (Processor Seven) s) ≡ Makes next outs) due h
+came_of s next Nine tick outs due h = subst (λ (o : Option Tick). awake o (step_by (rank_of Nine) (Processor Nine) s) ≡ Makes next outs) due h
+came_of s next Seven tick outs due h = subst (λ (o : Option Tick). awake o (step_by (rank_of Seven) (Processor Seven) s) ≡ Makes next outs) due h
 
 pub turn_later : (until : ℕ) (s next : MachineState) (proc : Proc) (outs : List Shown) → HasSoundParts s → (b : BelongsToTurn until s proc)
     → reference_step (rank_of proc) s ≡ Makes next outs → IsLater b.tick (processor_due next proc)

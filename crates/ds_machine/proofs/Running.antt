@@ -1,10 +1,11 @@
 use Rattle.ds_machine.proofs.Words.{CatchesUpFor, ComesBeforeAll, Ending, Geometry, GxState, HasShortRun, HasSoundParts, IsAhead, IsLater, IsLeast}
 use Rattle.ds_machine.proofs.Words.{IsOver, IsRunning, IsSound, LeftOut, List, MachineState, Makes, MayAct, MayStep, MovesOn, Nine, None, Option}
 use Rattle.ds_machine.proofs.Words.{Proc, Runs, RunsAhead, Seven, Shown, Some, StepsBeforeGeometry, TakesGeometry, Tick, [], actor_of, actors_differ}
-use Rattle.ds_machine.proofs.Words.{ap, arith, at_rank, counts_of, due_at, due_of_may, due_of_rank, dues_of, inl, inr, is_later, last_limit, least_is}
-use Rattle.ds_machine.proofs.Words.{least_unique, low_rank, more, next_shown, over, own_remaining, own_tick, place_rises, processor_due, processor_of}
-use Rattle.ds_machine.proofs.Words.{rank_of, rank_there, reference, reference_step, refl, run_exists, run_of, same_makes, same_or_not, stepped_of}
-use Rattle.ds_machine.proofs.Words.{stops, subst, sym, tick_of, ticks_left, ℕ, ◌*◌, ◌+◌, ◌<◌, ◌^◌, ◌∙◌, ◌∷◌, ◌≡◌, ◌≢◌, ◌≤◌, ◌⊎◌}
+use Rattle.ds_machine.proofs.Words.{ap, arith, at_rank, counts_of, due_at, due_of_may, due_of_rank, dues_of, geometry_rank, inl, inr, is_later}
+use Rattle.ds_machine.proofs.Words.{last_limit, least_is, least_unique, low_rank, more, next_shown, over, own_remaining, own_tick, place_rises}
+use Rattle.ds_machine.proofs.Words.{processor_due, processor_of, rank_of, rank_there, reference, reference_step, refl, run_exists, run_of, same_makes}
+use Rattle.ds_machine.proofs.Words.{same_or_not, stepped_of, stops, subst, sym, tick_of, ticks_left, ℕ, ◌*◌, ◌+◌, ◌<◌, ◌^◌, ◌∙◌, ◌∷◌, ◌≡◌, ◌≢◌, ◌≤◌}
+use Rattle.ds_machine.proofs.Words.{◌⊎◌}
 use Rattle.ds_machine.specs.CountingLaws.{RunsAfter, CountsAddUp, EndsWithin, LimitsRise, StartsRunning, StepsCount, StepsKeepRunning, StopsCountNone}
 use Rattle.ds_runs.specs.LastLaws.{LeadsTo, here, step}
 use Rattle.ds_runs.specs.declared.actors.Actor as actor
@@ -94,7 +95,7 @@ room_least limit s next tick rank outs least lt h room =
 room_lags : (limit : ℕ) (s next : MachineState) (tick : Tick) (rank : ℕ) (outs : List Shown) → StepsBeforeGeometry s rank tick → tick.0 < limit → reference_step rank s ≡ Makes next outs
     → EndsWithin limit s → EndsWithin limit next
 room_lags limit s next tick rank outs before lt h room =
-    record { last = room.last; run = last_lags reference limit 12 StepsBeforeGeometry may_lag s room.last room.run next rank tick outs before lt h; few = room.few }
+    record { last = room.last; run = last_lags reference limit geometry_rank StepsBeforeGeometry may_lag s room.last room.run next rank tick outs before lt h; few = room.few }
 
 room_ahead : (limit : ℕ) (s next : MachineState) (proc : Proc) (tick : Tick) → RunsAhead proc s tick → tick.0 < limit → reference_step (rank_of proc) s ≡ Makes next []
     → EndsWithin limit s → EndsWithin limit next
@@ -155,11 +156,11 @@ module _ (s next : MachineState) (tick : Tick) (rank : ℕ) (outs : List Shown) 
       let end = ap run_of k.2 in
       omega (arith, made, same, end)
 
-  geometry_at : (m : MachineState) (at : Tick) → m.io.gx.due ≡ Some at → due_at (dues_of m) 12 ≡ Some at
-  geometry_at m at due = due_of_rank m 12 (omega arith) ∙ due
+  geometry_at : (m : MachineState) (at : Tick) → m.io.gx.due ≡ Some at → due_at (dues_of m) geometry_rank ≡ Some at
+  geometry_at m at due = due_of_rank m geometry_rank (omega arith) ∙ due
 
-  geometry_due : (m : MachineState) (at : Tick) → due_at (dues_of m) 12 ≡ Some at → m.io.gx.due ≡ Some at
-  geometry_due m at due = sym (due_of_rank m 12 (omega arith)) ∙ due
+  geometry_due : (m : MachineState) (at : Tick) → due_at (dues_of m) geometry_rank ≡ Some at → m.io.gx.due ≡ Some at
+  geometry_due m at due = sym (due_of_rank m geometry_rank (omega arith)) ∙ due
 
   none_in : (a : actor.Actor) → a ≢ Geometry → runs_in a ≡ 0
   none_in Geometry other = absurd (other refl)
@@ -171,7 +172,7 @@ module _ (s next : MachineState) (tick : Tick) (rank : ℕ) (outs : List Shown) 
       let more = grows in
       let here = short.others rank tick st.there in
       record {
-        own = λ at due. elim (moved 12 at (geometry_at next at due)) [
+        own = λ at due. elim (moved geometry_rank at (geometry_at next at due)) [
           | inl same ↦ (let few = short.own at (geometry_due s at same) in omega (arith, few, none, more))
           | inr later ↦ omega (arith, here, none, more, later)
         ];
@@ -185,14 +186,14 @@ module _ (s next : MachineState) (tick : Tick) (rank : ℕ) (outs : List Shown) 
   few_in Geometry = omega arith
   few_in _ = omega arith
 
-  short_geometry : rank ≡ 12 → IsLeast (dues_of s) tick rank → HasShortRun next
+  short_geometry : rank ≡ geometry_rank → IsLeast (dues_of s) tick rank → HasShortRun next
   short_geometry is least =
       let more = grows in
       let one = few_in (actor_of rank) in
       let here = short.own tick (geometry_due s tick (subst (λ (r : ℕ). due_at (dues_of s) r ≡ Some tick) is st.there)) in
       record {
         own = λ at due.
-            (let later = is_later tick (due_at (dues_of next) 12) at (subst (λ (r : ℕ). IsLater tick (due_at (dues_of next) r)) is own_later) (geometry_at next at due) in
+            (let later = is_later tick (due_at (dues_of next) geometry_rank) at (subst (λ (r : ℕ). IsLater tick (due_at (dues_of next) r)) is own_later) (geometry_at next at due) in
             omega (arith, here, one, more, later));
         others = λ other at due. elim (moved other at due) [
           | inl same ↦ elim (least.least other at same) [
@@ -207,9 +208,9 @@ module _ (s next : MachineState) (tick : Tick) (rank : ℕ) (outs : List Shown) 
 
 pub short_least : (s next : MachineState) (tick : Tick) (rank : ℕ) (outs : List Shown) → Steps (actor_of rank) rank tick s → IsLeast (dues_of s) tick rank
     → reference_step rank s ≡ Makes next outs → HasShortRun s → HasShortRun next
-short_least s next tick rank outs st least h short = elim (same_or_not rank 12) [
+short_least s next tick rank outs st least h short = elim (same_or_not rank geometry_rank) [
   | inl is ↦ short_geometry s next tick rank outs st h short is least
-  | inr ne ↦ short_other s next tick rank outs st h short (actors_differ 12 rank (omega arith) (low_rank s rank tick st.there) ne)
+  | inr ne ↦ short_other s next tick rank outs st h short (actors_differ geometry_rank rank (omega arith) (low_rank s rank tick st.there) ne)
 ]
 
 short_then : (s next : MachineState) (tick : Tick) (rank : ℕ) (outs : List Shown) → IsSound s → Steps (actor_of rank) rank tick s → MayThen s rank tick → reference_step rank s ≡ Makes next outs
@@ -221,12 +222,12 @@ short_then s next tick rank outs sound st may h short = elim may [
     | inr k ↦ of_other (not_twelve rank k.0 k.1)
   ]
 ] where
-  not_twelve : (rank : ℕ) (proc : Proc) → rank ≡ rank_of proc → rank ≢ 12
+  not_twelve : (rank : ℕ) (proc : Proc) → rank ≡ rank_of proc → rank ≢ geometry_rank
   not_twelve rank Nine is = λ e. omega (arith, is, e)
   not_twelve rank Seven is = λ e. omega (arith, is, e)
 
-  of_other : rank ≢ 12 → HasShortRun next
-  of_other ne = short_other s next tick rank outs st h short (actors_differ 12 rank (omega arith) (low_rank s rank tick st.there) ne)
+  of_other : rank ≢ geometry_rank → HasShortRun next
+  of_other ne = short_other s next tick rank outs st h short (actors_differ geometry_rank rank (omega arith) (low_rank s rank tick st.there) ne)
 
   of_least : IsLeast (dues_of s) tick rank → HasShortRun next
   of_least least = short_least s next tick rank outs st least h short
@@ -267,13 +268,13 @@ stops_count_none rank s left stop h = stop_counts s left rank stop h
 
 -- ---- where geometry catches up
 
-pub running_taken : (limit tick rank : ℕ) (s now : MachineState) → ComesBeforeAll tick rank s → ((u : ℕ) → u ≤ tick → 24 * u + 12 < 24 * tick + rank → u < limit)
+pub running_taken : (limit tick rank : ℕ) (s now : MachineState) → ComesBeforeAll tick rank s → ((u : ℕ) → u ≤ tick → 24 * u + geometry_rank < 24 * tick + rank → u < limit)
     → TakesGeometry tick rank s now → IsRunning limit s → IsRunning limit now
 running_taken limit tick rank s now before below (lagging.no_geometry start) running = running
 running_taken limit tick rank s now before below (lagging.more_geometry start mid next takes behind makes) running =
     let first = running_taken limit tick rank start mid before below takes running in
     let k = behind_steps tick rank mid (still_before tick rank start mid running.sound before takes) behind in
-    running_then limit mid next k.next 12 [] k.least.there (inl k.least) (below k.next.0 k.early k.earlier) makes first
+    running_then limit mid next k.next geometry_rank [] k.least.there (inl k.least) (below k.next.0 k.early k.earlier) makes first
 
 running_caught : (limit : ℕ) (s caught : MachineState) (tick : Tick) (rank : ℕ) → CaughtUp s caught tick rank → tick.0 < limit → IsRunning limit s → IsRunning limit caught
 running_caught limit s caught tick rank k lt running = elim k.came [
@@ -323,7 +324,7 @@ few_left limit tick rank own (Some at) lt after = elim (after at refl) [
   | inr same ↦ (let e = same.0 in let le = same.1 in record { most = omega (arith, lt, e); later = λ first. absurd (omega (arith, first, le)) })
 ]
 
-low_or_last : (rank : ℕ) → rank < 24 → (rank ≤ 22) ⊎ (22 < rank)
+low_or_last : (rank : ℕ) → rank < 24 → (rank ≤ rank_of Nine) ⊎ (rank_of Nine < rank)
 low_or_last rank lt = grind (arith, lt)
 
 room_from : (limit : ℕ) (end : Ending MachineState LeftOut) (s : MachineState) (outs : List Shown) → Runs reference limit end s outs → HasSoundParts s → (tick : Tick) (rank : ℕ)
@@ -336,8 +337,8 @@ room_from limit end s outs (stops s0 after u q stop first below halts) sound tic
     let same = least_unique (dues_of s0) u q tick rank first least in
     let at : u.0 ≡ tick.0 = ap (λ (t : Tick). t.0) same.0 in
     let is = same.1 in
-    let nine = few_left limit u.0 q 22 (processor_due s0 Nine) below (λ t due. first.least 22 t (rank_there s0 Nine ∙ due)) in
-    let seven = few_left limit u.0 q 23 (processor_due s0 Seven) below (λ t due. first.least 23 t (rank_there s0 Seven ∙ due)) in
+    let nine = few_left limit u.0 q (rank_of Nine) (processor_due s0 Nine) below (λ t due. first.least (rank_of Nine) t (rank_there s0 Nine ∙ due)) in
+    let seven = few_left limit u.0 q (rank_of Seven) (processor_due s0 Seven) below (λ t due. first.least (rank_of Seven) t (rank_there s0 Seven ∙ due)) in
     let low = low_rank s0 q u first.there in
     let most_nine = nine.most in
     let most_seven = seven.most in
@@ -366,7 +367,7 @@ starts_running limit s sound none few short = record {
   sound = sound;
   ends = λ later le. room later le;
   run = record {
-    own = λ tick due. (let most = none 12 tick (due_of_rank s 12 (omega arith) ∙ due) in omega (arith, most, short));
+    own = λ tick due. (let most = none geometry_rank tick (due_of_rank s geometry_rank (omega arith) ∙ due) in omega (arith, most, short));
     others = λ rank tick due. (let most = none rank tick due in omega (arith, most, short));
   };
 } where

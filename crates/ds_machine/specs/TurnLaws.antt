@@ -40,7 +40,7 @@ pub record IsFirst (until : ℕ) (s : MachineState) (first : First) : Type 0 whe
 
 -- a tick comes before all events: before it and at it no actor acts but the processors
 abbrev pub ComesBeforeEvents : MachineState → ℕ → Type 0
-ComesBeforeEvents s tick = (event : ℕ) (at : Tick) → event < 22 → due_at (acting_dues s) event ≡ Some at → tick < at.0
+ComesBeforeEvents s tick = (event : ℕ) (at : Tick) → event < rank_of Nine → due_at (acting_dues s) event ≡ Some at → tick < at.0
 
 -- the first tick that doesn't, or isn't below the limit of a turn
 abbrev pub IsTurnEnd : ℕ → MachineState → ℕ → Type 0

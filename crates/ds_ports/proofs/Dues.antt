@@ -9,6 +9,8 @@ use Rattle.ds_runs.proofs.Firsts.{first_of_append}
 use Rattle.ds_ports.specs.Touches.{Display}
 use Rattle.ds_ports.proofs.DisplayPorts.{written_scan}
 use Rattle.ds_ports.proofs.Passed.{first_false, stays_by_row}
+use Rattle.ds_runs.proofs.AllActors.{actor_rank}
+use Rattle.ds_runs.specs.declared.actors.Actor.TheVariants as who
 
 -- The first of what is due behind the ports: how it is found; and what leaves the first of what acts as it is.
 
@@ -57,15 +59,15 @@ first_channel rank s =
 -- ---- the first of all
 
 pub first_by_parts : (geometry : Option Tick) (u : IoState) → first_with geometry u
-    ≡ earlier (due_with_rank 1 (io_due Video u))
-    (earlier (first_from 2 (timer_due (timer_at u.nine.timers 0) ∷ timer_due (timer_at u.nine.timers 1) ∷ timer_due (timer_at u.nine.timers 2) ∷ timer_due (timer_at u.nine.timers 3) ∷ []))
-    (earlier (first_from 6 (timer_due (timer_at u.seven.timers 0) ∷ timer_due (timer_at u.seven.timers 1) ∷ timer_due (timer_at u.seven.timers 2) ∷ timer_due (timer_at u.seven.timers 3) ∷ []))
-    (earlier (due_with_rank 10 u.divider.due)
-    (earlier (due_with_rank 11 u.root.due)
-    (earlier (due_with_rank 12 geometry)
-    (earlier (due_with_rank 13 (card_due u.card))
-    (earlier (first_from 14 (dma_due_in u Nine 0 ∷ dma_due_in u Nine 1 ∷ dma_due_in u Nine 2 ∷ dma_due_in u Nine 3 ∷ []))
-    (first_from 18 (channel_due u.seven.dma 0 ∷ channel_due u.seven.dma 1 ∷ channel_due u.seven.dma 2 ∷ channel_due u.seven.dma 3 ∷ [])))))))))
+    ≡ earlier (due_with_rank (actor_rank who.Video) (io_due Video u))
+    (earlier (first_from (actor_rank (who.Timer Nine 0)) (timer_due (timer_at u.nine.timers 0) ∷ timer_due (timer_at u.nine.timers 1) ∷ timer_due (timer_at u.nine.timers 2) ∷ timer_due (timer_at u.nine.timers 3) ∷ []))
+    (earlier (first_from (actor_rank (who.Timer Seven 0)) (timer_due (timer_at u.seven.timers 0) ∷ timer_due (timer_at u.seven.timers 1) ∷ timer_due (timer_at u.seven.timers 2) ∷ timer_due (timer_at u.seven.timers 3) ∷ []))
+    (earlier (due_with_rank (actor_rank who.Divider) u.divider.due)
+    (earlier (due_with_rank (actor_rank who.SquareRoot) u.root.due)
+    (earlier (due_with_rank (actor_rank who.Geometry) geometry)
+    (earlier (due_with_rank (actor_rank who.Card) (card_due u.card))
+    (earlier (first_from (actor_rank (who.Dma Nine 0)) (dma_due_in u Nine 0 ∷ dma_due_in u Nine 1 ∷ dma_due_in u Nine 2 ∷ dma_due_in u Nine 3 ∷ []))
+    (first_from (actor_rank (who.Dma Seven 0)) (channel_due u.seven.dma 0 ∷ channel_due u.seven.dma 1 ∷ channel_due u.seven.dma 2 ∷ channel_due u.seven.dma 3 ∷ [])))))))))
 unfolding first_with
 first_by_parts geometry u =
     let n : List (Option Tick) = timer_due (timer_at u.nine.timers 0) ∷ timer_due (timer_at u.nine.timers 1) ∷ timer_due (timer_at u.nine.timers 2) ∷ timer_due (timer_at u.nine.timers 3) ∷ [] in
@@ -73,10 +75,10 @@ first_by_parts geometry u =
     let nd : List (Option Tick) = dma_due_in u Nine 0 ∷ dma_due_in u Nine 1 ∷ dma_due_in u Nine 2 ∷ dma_due_in u Nine 3 ∷ [] in
     let sd : List (Option Tick) = channel_due u.seven.dma 0 ∷ channel_due u.seven.dma 1 ∷ channel_due u.seven.dma 2 ∷ channel_due u.seven.dma 3 ∷ [] in
     let maths : List (Option Tick) = u.divider.due ∷ u.root.due ∷ geometry ∷ card_due u.card ∷ nd ++ sd in
-    let video : Option Due = due_with_rank 1 (io_due Video u) in
-    ap (λ (d : Option Due). earlier video d) (first_of_append 2 n (s ++ maths)
-    ∙ ap (λ (d : Option Due). earlier (first_from 2 n) d) (first_of_append 6 s maths)
-    ∙ ap (λ (d : Option Due). earlier (first_from 2 n) (earlier (first_from 6 s) (earlier (due_with_rank 10 u.divider.due) (earlier (due_with_rank 11 u.root.due) (earlier (due_with_rank 12 geometry) (earlier (due_with_rank 13 (card_due u.card)) d)))))) (first_of_append 14 nd sd))
+    let video : Option Due = due_with_rank (actor_rank who.Video) (io_due Video u) in
+    ap (λ (d : Option Due). earlier video d) (first_of_append (actor_rank (who.Timer Nine 0)) n (s ++ maths)
+    ∙ ap (λ (d : Option Due). earlier (first_from (actor_rank (who.Timer Nine 0)) n) d) (first_of_append (actor_rank (who.Timer Seven 0)) s maths)
+    ∙ ap (λ (d : Option Due). earlier (first_from (actor_rank (who.Timer Nine 0)) n) (earlier (first_from (actor_rank (who.Timer Seven 0)) s) (earlier (due_with_rank (actor_rank who.Divider) u.divider.due) (earlier (due_with_rank (actor_rank who.SquareRoot) u.root.due) (earlier (due_with_rank (actor_rank who.Geometry) geometry) (earlier (due_with_rank (actor_rank who.Card) (card_due u.card)) d)))))) (first_of_append (actor_rank (who.Dma Nine 0)) nd sd))
 
 -- ---- what leaves the first that acts
 

@@ -47,28 +47,28 @@ pub all_of_actors : (tick : Tick) (f g : actor.Actor → Option Tick) → ((a : 
 all_of_actors tick f g h = each_of tick f g actors are_numbered h
 
 -- the table backwards
-abbrev rank_of : actor.Actor → ℕ
-rank_of KeyScript = 0
-rank_of Video = 1
-rank_of (Timer Nine number) = 2 + number
-rank_of (Timer Seven number) = 6 + number
-rank_of Divider = 10
-rank_of SquareRoot = 11
-rank_of Geometry = 12
-rank_of Card = 13
-rank_of (Dma Nine channel) = 14 + channel
-rank_of (Dma Seven channel) = 18 + channel
-rank_of (Processor Nine) = 22
-rank_of (Processor Seven) = 23
+abbrev pub actor_rank : actor.Actor → ℕ
+actor_rank KeyScript = 0
+actor_rank Video = 1
+actor_rank (Timer Nine number) = 2 + number
+actor_rank (Timer Seven number) = 6 + number
+actor_rank Divider = 10
+actor_rank SquareRoot = 11
+actor_rank Geometry = 12
+actor_rank Card = 13
+actor_rank (Dma Nine channel) = 14 + channel
+actor_rank (Dma Seven channel) = 18 + channel
+actor_rank (Processor Nine) = 22
+actor_rank (Processor Seven) = 23
 
 abbrev HaveRanks : ℕ → List actor.Actor → Type 0
 HaveRanks from [] = Unit {0}
-HaveRanks from (a ∷ rest) = (rank_of a ≡ from) × HaveRanks (suc from) rest
+HaveRanks from (a ∷ rest) = (actor_rank a ≡ from) × HaveRanks (suc from) rest
 
 have_ranks : HaveRanks 0 actors
 have_ranks = (refl, (refl, (refl, (refl, (refl, (refl, (refl, (refl, (refl, (refl, (refl, (refl, (refl, (refl, (refl, (refl, (refl, (refl, (refl, (refl, (refl, (refl, (refl, (refl, tt))))))))))))))))))))))))
 
-rank_at : (from : ℕ) (all : List actor.Actor) (rank : ℕ) → HaveRanks from all → rank < length all → rank_of (get_or all rank KeyScript) ≡ from + rank
+rank_at : (from : ℕ) (all : List actor.Actor) (rank : ℕ) → HaveRanks from all → rank < length all → actor_rank (get_or all rank KeyScript) ≡ from + rank
 rank_at from [] rank each lt = absurd (omega (arith, lt))
 rank_at from (a ∷ rest) zero each lt = (let e = each.0 in omega (arith, e))
 rank_at from (a ∷ rest) (suc rank) each lt = (let e = rank_at (suc from) rest rank each.1 (omega (arith, lt)) in omega (arith, e))
@@ -78,7 +78,7 @@ pub actors_differ : (rank other : ℕ) → rank < 24 → other < 24 → other �
 actors_differ rank other lt lt₂ ne = λ same.
     (let a = rank_at 0 actors rank have_ranks lt in
     let b = rank_at 0 actors other have_ranks lt₂ in
-    let c : rank_of (actor_of other) ≡ rank_of (actor_of rank) = ap rank_of same in
+    let c : actor_rank (actor_of other) ≡ actor_rank (actor_of rank) = ap actor_rank same in
     ne (omega (arith, a, b, c)))
 
 -- past the table nobody is due

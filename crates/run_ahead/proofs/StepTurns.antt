@@ -3,10 +3,10 @@ use Rattle.run_ahead.proofs.Words.{Fits, HasEnds, IsLeast, IsLeastBelow, IsOver,
 use Rattle.run_ahead.proofs.Words.{Makes, MeetsStop, Nine, None, Option, Proc, Seven, Shown, Some, Steps, StopsActing, TakesActing, TakesQuiet, Tick}
 use Rattle.run_ahead.proofs.Words.{TookStretch, TookTurn, Turns, [], acted_keeps, acted_stops, acting_dues, acting_low, acting_processor, actor_of}
 use Rattle.run_ahead.proofs.Words.{acts_then, ap, arith, caught_more, caught_so, counts_of, due_at, due_of_rank, due_or_never, dues_of, false}
-use Rattle.run_ahead.proofs.Words.{few_where_stops, inl, inr, is_behind, is_blocked, is_due_before, loud_same, low_or_high, ltb-false, max, nat_lt}
-use Rattle.run_ahead.proofs.Words.{next_shown, observes_by, one_more_turn, open_of, or_parts, own_tick, processor_of, rank_of, reference_step, refl}
-use Rattle.run_ahead.proofs.Words.{run_to, running_acted, running_along, running_taken, sort_rank, subst, sym, tick_of, true, true≢false, w64, ℕ}
-use Rattle.run_ahead.proofs.Words.{◌&&◌, ◌*◌, ◌+◌, ◌<◌, ◌==◌, ◌^◌, ◌||◌, ◌∙◌, ◌∷◌, ◌≡◌, ◌≤◌, ◌⊎◌}
+use Rattle.run_ahead.proofs.Words.{few_where_stops, geometry_rank, inl, inr, is_behind, is_blocked, is_due_before, loud_same, low_or_high, ltb-false}
+use Rattle.run_ahead.proofs.Words.{max, nat_lt, next_shown, observes_by, one_more_turn, open_of, or_parts, own_tick, processor_of, rank_of}
+use Rattle.run_ahead.proofs.Words.{reference_step, refl, run_to, running_acted, running_along, running_taken, sort_rank, subst, sym, tick_of, true}
+use Rattle.run_ahead.proofs.Words.{true≢false, w64, ℕ, ◌&&◌, ◌*◌, ◌+◌, ◌<◌, ◌==◌, ◌^◌, ◌||◌, ◌∙◌, ◌∷◌, ◌≡◌, ◌≤◌, ◌⊎◌}
 use Rattle.ds_machine.specs.NextEvents.{least_of}
 use Rattle.ds_machine.proofs.FastSteps.{wait_is}
 use Rattle.std.proofs.Math.Facts.{Fits-of_lt}
@@ -59,7 +59,7 @@ shown_same : (s caught next : MachineState) (swapped : Bool) → caught.io.video
 shown_same s caught next swapped same = rw same refl
 
 -- so an event's step is a turn
-pub event_took : (until : ℕ) (s caught next : MachineState) (tick : Tick) (rank : ℕ) (done : answer.Done) → IsSound s → IsLeast (acting_dues s) tick rank → rank < 22 → tick.0 < until
+pub event_took : (until : ℕ) (s caught next : MachineState) (tick : Tick) (rank : ℕ) (done : answer.Done) → IsSound s → IsLeast (acting_dues s) tick rank → rank < rank_of Nine → tick.0 < until
     → CatchesUpFor tick.0 rank s caught → Steps rank caught done next → TookTurn until s done next
 event_took until s caught next tick rank answers.Made sound least event below catches h =
     inl (record { tick = tick; rank = rank; least = least; below = below; caught = caught; catches = catches; step = h }, event)
@@ -82,14 +82,14 @@ pub before_all : (until : ℕ) (s : MachineState) → IsOver (acting_dues s) unt
 before_all until s none other at due = from_limit until at.0 other (none other at due)
 
 -- and where quiet geometry isn't behind it either, nobody is due below it
-not_behind : (due until : ℕ) → (nat_lt due until || ((due == until) && nat_lt 12 0)) ≡ false → until ≤ due
-not_behind due until h = ltb-false due until (or_parts (nat_lt due until) ((due == until) && nat_lt 12 0) h).0
+not_behind : (due until : ℕ) → (nat_lt due until || ((due == until) && nat_lt geometry_rank 0)) ≡ false → until ≤ due
+not_behind due until h = ltb-false due until (or_parts (nat_lt due until) ((due == until) && nat_lt geometry_rank 0) h).0
 
 over_by : (quiet : Bool) (until : ℕ) (s : MachineState) (tick : Tick) → (quiet ≡ false → acting_dues s ≡ dues_of s) → (quiet && is_due_before s.io.gx.due until 0) ≡ false
-    → IsOver (acting_dues s) until → due_at (dues_of s) 12 ≡ Some tick → until ≤ tick.0
-over_by false until s tick loud level none h = none 12 tick (subst (λ (dues : List (Option Tick)). due_at dues 12 ≡ Some tick) (sym (loud refl)) h)
+    → IsOver (acting_dues s) until → due_at (dues_of s) geometry_rank ≡ Some tick → until ≤ tick.0
+over_by false until s tick loud level none h = none geometry_rank tick (subst (λ (dues : List (Option Tick)). due_at dues geometry_rank ≡ Some tick) (sym (loud refl)) h)
 over_by true until s tick loud level none h =
-    let due : s.io.gx.due ≡ Some tick = sym (due_of_rank s 12 (omega arith)) ∙ h in
+    let due : s.io.gx.due ≡ Some tick = sym (due_of_rank s geometry_rank (omega arith)) ∙ h in
     not_behind tick.0 until (subst (λ (o : Option Tick). is_due_before o until 0 ≡ false) due level)
 
 pub over_all : (until : ℕ) (s : MachineState) → IsOver (acting_dues s) until → is_behind until 0 s ≡ false → IsOver (dues_of s) until

@@ -101,7 +101,7 @@ module _ (until : ℕ) (s : MachineState) (sound : IsSound s) where
     by_stop (None, next, t) = (answers.Made, next, is_stretch until proc s next first t)
     by_stop (Some left, next, t) = (answers.Stopped left, next, is_stop until proc s next left first t)
 
-  event_came : (first : Due) → IsLeast (acting_dues s) first.tick first.rank → first.rank < 22 → first.tick.0 < until → HasTook until s
+  event_came : (first : Due) → IsLeast (acting_dues s) first.tick first.rank → first.rank < rank_of Nine → first.tick.0 < until → HasTook until s
   event_came first least event below = by_came (reference_step first.rank catching.0) refl where
     catching : (caught : MachineState) × CatchesUpFor first.tick.0 first.rank s caught
     catching = catches_if (observes_by (actor_of first.rank) s) first.tick.0 first.rank s sound
@@ -116,10 +116,10 @@ module _ (until : ℕ) (s : MachineState) (sound : IsSound s) where
         let k = answer_of catching.0 next first.tick first.rank outs (caught_steps s catching.0 first.tick first.rank up) e in
         took k.0 next k.1
 
-  rank_kind : (rank : ℕ) → rank < 24 → (rank < 22) ⊎ ((proc : Proc) × (rank ≡ rank_of proc))
-  rank_kind rank low = elim (low_or_high rank 22) [
+  rank_kind : (rank : ℕ) → rank < 24 → (rank < rank_of Nine) ⊎ ((proc : Proc) × (rank ≡ rank_of proc))
+  rank_kind rank low = elim (low_or_high rank (rank_of Nine)) [
     | inl event ↦ inl event
-    | inr other ↦ elim (low_or_high rank 23) [ inl nine ↦ inr (Nine, omega (arith, nine, other)) | inr seven ↦ inr (Seven, omega (arith, seven, low)) ]
+    | inr other ↦ elim (low_or_high rank (rank_of Seven)) [ inl nine ↦ inr (Nine, omega (arith, nine, other)) | inr seven ↦ inr (Seven, omega (arith, seven, low)) ]
   ]
 
   has_turn_below : (first : Due) → IsLeast (acting_dues s) first.tick first.rank → first.tick.0 < until → HasTook until s

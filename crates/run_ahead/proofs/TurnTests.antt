@@ -1,6 +1,7 @@
 use Rattle.run_ahead.proofs.Words.{BelongsToTurn, Bool, Due, IsLeast, List, MachineState, Nine, None, Option, Proc, Seven, Some, Tick, []}
-use Rattle.run_ahead.proofs.Words.{acting_dues, ap, arith, false, if◌then◌else◌, inl, inr, is_blocked, list_all, low_or_high, nat_le, none-some}
-use Rattle.run_ahead.proofs.Words.{rank_of, refl, same_Some, same_or_not, sym, tick_of, true, true_or_false, true≢false, ℕ, ◌<◌, ◌∙◌, ◌∷◌, ◌≡◌, ◌⊎◌}
+use Rattle.run_ahead.proofs.Words.{acting_dues, ap, arith, false, geometry_rank, if◌then◌else◌, inl, inr, is_blocked, list_all, low_or_high, nat_le}
+use Rattle.run_ahead.proofs.Words.{none-some, rank_of, refl, same_Some, same_or_not, sym, tick_of, true, true_or_false, true≢false, ℕ, ◌<◌, ◌∙◌, ◌∷◌}
+use Rattle.run_ahead.proofs.Words.{◌≡◌, ◌⊎◌}
 use Rattle.std.proofs.lemmas.List.Elements.{All-contains}
 use Rattle.std.proofs.lemmas.List.Sums.{AllPass-from_list_all}
 use Rattle.ds_base.specs.Accesses.{Access, Fetch, MemoryMachine, Read, Write}
@@ -24,6 +25,8 @@ use Rattle.ds_machine.specs.Steps.{line_of, nine_reach, seven_reach}
 use Rattle.ds_machine.proofs.ActingDues.{somebody_acts}
 use Rattle.ds_machine.proofs.FenceFirsts.{ahead_where, below_is, below_then, below_where, fence_is, least_where, nine_by_parts, rank_where, seven_by_parts}
 use Rattle.ds_machine.proofs.PrivateTests.{Passes, all_of}
+use Rattle.ds_runs.proofs.AllActors.{actor_rank}
+use Rattle.ds_runs.specs.declared.actors.Actor.TheVariants as who
 
 -- Whether a processor's step belongs to its turn: it does, or it doesn't.
 
@@ -107,13 +110,13 @@ some_first a one rest = let k = pair_first one rest in let g = then_first a k.0 
 
 pub fence_there : (s : MachineState) (proc : Proc) → (fence : Tick) × IsFence s proc fence
 fence_there s Nine =
-    let rest = earlier (first_from 2 (timer_dues s.io Nine)) (earlier (due_with_rank 12 (acting_io_due Geometry s.io))
-    (earlier (due_with_rank 13 (card_due_for Nine s.io.card)) (first_from 14 (channel_dues s.io Nine)))) in
-    let k = some_first (due_with_rank 0 (keys_due s.keys)) (record { tick = scan_due_tick s.io.video.scan; rank = 1 }) rest in
+    let rest = earlier (first_from (actor_rank (who.Timer Nine 0)) (timer_dues s.io Nine)) (earlier (due_with_rank geometry_rank (acting_io_due Geometry s.io))
+    (earlier (due_with_rank (actor_rank who.Card) (card_due_for Nine s.io.card)) (first_from (actor_rank (who.Dma Nine 0)) (channel_dues s.io Nine)))) in
+    let k = some_first (due_with_rank (actor_rank who.KeyScript) (keys_due s.keys)) (record { tick = scan_due_tick s.io.video.scan; rank = actor_rank who.Video }) rest in
     (k.0.tick, fence_is s Nine k.0 (k.1 ∙ sym (nine_by_parts s)))
 fence_there s Seven =
-    let rest = earlier (first_from 6 (timer_dues s.io Seven)) (earlier (due_with_rank 13 (card_due_for Seven s.io.card)) (first_from 18 (channel_dues s.io Seven))) in
-    let k = some_first (due_with_rank 0 (keys_due s.keys)) (record { tick = scan_due_tick s.io.video.scan; rank = 1 }) rest in
+    let rest = earlier (first_from (actor_rank (who.Timer Seven 0)) (timer_dues s.io Seven)) (earlier (due_with_rank (actor_rank who.Card) (card_due_for Seven s.io.card)) (first_from (actor_rank (who.Dma Seven 0)) (channel_dues s.io Seven))) in
+    let k = some_first (due_with_rank (actor_rank who.KeyScript) (keys_due s.keys)) (record { tick = scan_due_tick s.io.video.scan; rank = actor_rank who.Video }) rest in
     (k.0.tick, fence_is s Seven k.0 (k.1 ∙ sym (seven_by_parts s)))
 
 ahead_or_not : (s : MachineState) (proc : Proc) (tick : Tick) → processor_due s proc ≡ Some tick → IsDecided (IsAhead s proc)

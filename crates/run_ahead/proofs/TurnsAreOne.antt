@@ -1,9 +1,9 @@
 use Rattle.run_ahead.proofs.Words.{At, BelongsToTurn, Bool, CatchesUp, CatchesUpFor, CatchesUpIf, ConsoleState, Ending, IsLeast, IsOver, IsSome}
 use Rattle.run_ahead.proofs.Words.{LeftOut, List, MachineState, MachineStep, Makes, MeetsStop, Nine, None, Option, Proc, Seven, Shown, Some, Stops}
 use Rattle.run_ahead.proofs.Words.{TakesEvent, TakesGeometry, TakesQuiet, TakesSteps, TakesStretch, Tick, Turns, TurnsToEnd, [], acting_dues}
-use Rattle.run_ahead.proofs.Words.{actor_of, ap, arith, at_end, behind_is, counted_of, counts, due_of_rank, due_where_acts, dues_of, false, inl, inr}
-use Rattle.run_ahead.proofs.Words.{is_behind, meets_stop, next_shown, none-some, observes_by, one_more_turn, processor_of, rank_of, reference_step}
-use Rattle.run_ahead.proofs.Words.{refl, run_to, same_Some, subst, sym, true, true≢false, ℕ, ◌<◌, ◌∙◌, ◌∷◌, ◌≡◌, ◌≤◌, ◌⊎◌}
+use Rattle.run_ahead.proofs.Words.{actor_of, ap, arith, at_end, behind_is, counted_of, counts, due_of_rank, due_where_acts, dues_of, false}
+use Rattle.run_ahead.proofs.Words.{geometry_rank, inl, inr, is_behind, meets_stop, next_shown, none-some, observes_by, one_more_turn, processor_of}
+use Rattle.run_ahead.proofs.Words.{rank_of, reference_step, refl, run_to, same_Some, subst, sym, true, true≢false, ℕ, ◌<◌, ◌∙◌, ◌∷◌, ◌≡◌, ◌≤◌, ◌⊎◌}
 use Rattle.ds_runs.specs.Runs as runs
 use Rattle.ds_runs.proofs.Lists.{least_unique}
 use Rattle.ds_runs.proofs.RunLaws.{not_both, same_makes}
@@ -54,7 +54,7 @@ module _ {S : Type 0} (Step : S → S → Type 0) (one : (s a b : S) → Step s 
 -- ---- geometry catches up in one way
 
 abbrev GeometrySteps : ℕ → ℕ → MachineState → MachineState → Type 0
-GeometrySteps tick rank s next = (is_behind tick rank s ≡ true) × (reference_step 12 s ≡ Makes next [])
+GeometrySteps tick rank s next = (is_behind tick rank s ≡ true) × (reference_step geometry_rank s ≡ Makes next [])
 
 geometry_chain : (tick rank : ℕ) (s now : MachineState) → TakesGeometry tick rank s now → Chain (GeometrySteps tick rank) s now
 geometry_chain tick rank s now (lagging.no_geometry _) = none s
@@ -116,7 +116,7 @@ record EventComes (until : ℕ) (s : MachineState) (came : MachineStep MachineSt
   pub tick : Tick
   pub rank : ℕ
   pub least : IsLeast (acting_dues s) tick rank
-  pub event : rank < 22
+  pub event : rank < rank_of Nine
   pub below : tick.0 < until
   pub comes : Comes tick.0 rank s came
 
@@ -164,7 +164,7 @@ module _ (until : ℕ) (s : MachineState) (a b : MachineStep MachineState Shown 
   quiets_one x y =
       x.is ∙ ap (λ (m : MachineState). (let came : MachineStep MachineState Shown LeftOut = Makes m [] in came)) (caught_one until 0 s x.next y.next x.takes.catches y.takes.catches) ∙ sym y.is
 
-  high : (proc : Proc) → 22 ≤ rank_of proc
+  high : (proc : Proc) → rank_of Nine ≤ rank_of proc
   high Nine = omega arith
   high Seven = omega arith
 
@@ -213,7 +213,7 @@ none_comes until s came over comes = elim comes [
     | inl x ↦ acts x.tick (rank_of x.proc) x.least x.below
     | inr x ↦
         (let k = behind_is until 0 s x.takes.some in
-        let le = over 12 k.next (due_of_rank s 12 (omega arith) ∙ k.due) in
+        let le = over geometry_rank k.next (due_of_rank s geometry_rank (omega arith) ∙ k.due) in
         elim k.earlier [ inl lt ↦ omega (arith, lt, le) | inr same ↦ (let low = same.1 in omega (arith, low)) ])
   ]
 ] where

@@ -27,6 +27,7 @@ pub use Rattle.ds_machine.specs.CountingLaws.{IsRunning, last_limit}
 pub use Rattle.ds_machine.specs.FrameLaws.{FollowFrames, FollowLists}
 pub use Rattle.ds_machine.specs.Frames.{last_frame, last_lists}
 pub use Rattle.ds_machine.specs.Lagging.{CatchesUp, CatchesUpFor, CatchesUpIf, ComesBeforeAll, TakesGeometry, observes_by}
+pub use Rattle.ds_machine.specs.Hearing.{geometry_rank}
 pub use Rattle.ds_machine.specs.Private.{rank_of}
 pub use Rattle.ds_machine.specs.Reference.{Shown, dues_of, next_shown, reference, reference_step}
 pub use Rattle.ds_machine.specs.Sound.{IsSound}

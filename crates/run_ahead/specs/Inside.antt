@@ -1,6 +1,7 @@
 use Rattle.std.specs.Prelude.{ℕ, ◌≡◌, ◌<◌, ◌≤◌, ◌⊎◌, [], ◌∷◌, Option, Some, None, max}
 use Rattle.ds_base.specs.declared.left_out.LeftOut.{LeftOut}
 use Rattle.ds_base.specs.declared.processors.Proc.{Proc}
+use Rattle.ds_base.specs.declared.processors.Proc.TheVariants.{Nine}
 use Rattle.ds_runs.specs.Runs.{Makes, Stops}
 use Rattle.ds_machine.specs.CountingLaws.{IsRunning}
 use Rattle.ds_machine.specs.Lagging.{CatchesUpFor}
@@ -24,7 +25,7 @@ use Rattle.run_ahead.specs.Turns.{MeetsStop, TakesEvent, TakesQuiet, TakesStretc
 
 -- the processor of a rank, where it isn't an event's
 abbrev pub HasProcessor : ℕ → Option Proc → Type 0
-HasProcessor rank None = rank < 22
+HasProcessor rank None = rank < rank_of Nine
 HasProcessor rank (Some proc) = rank ≡ rank_of proc
 
 -- a processor took its steps that belong to its turn, up to the first that doesn't, or to one that stops, by the stop if there is one

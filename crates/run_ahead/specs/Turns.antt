@@ -3,6 +3,7 @@ use Rattle.ds_base.specs.declared.left_out.LeftOut.{LeftOut}
 use Rattle.ds_base.specs.declared.ticks.Tick.{Tick}
 use Rattle.ds_runs.specs.Runs.{IsLeast, IsOver, MachineStep, Makes, Stops}
 use Rattle.ds_base.specs.declared.processors.Proc.{Proc}
+use Rattle.ds_base.specs.declared.processors.Proc.TheVariants.{Nine}
 use Rattle.ds_machine.specs.Acting.{acting_dues, is_behind}
 use Rattle.ds_machine.specs.Lagging.{CatchesUp, CatchesUpFor}
 use Rattle.ds_machine.specs.Private.{rank_of}
@@ -28,7 +29,7 @@ pub record Acts (until : ℕ) (old : MachineState) (came : MachineStep MachineSt
 
 -- that actor isn't a processor: its event is the turn
 abbrev pub TakesEvent : ℕ → MachineState → List Shown → MachineState → Type 0
-TakesEvent until old outs new = (acting : Acts until old (Makes new outs)) × (acting.rank < 22)
+TakesEvent until old outs new = (acting : Acts until old (Makes new outs)) × (acting.rank < rank_of Nine)
 
 -- it is a processor: the turn is its step and then the longest run of its further steps that belong to the turn
 pub record TakesStretch (until : ℕ) (old new : MachineState) : Type 0 where
@@ -60,7 +61,7 @@ pub record StretchStops (until : ℕ) (old : MachineState) (left : LeftOut) (new
 
 -- a turn's step stops the machine: an event, or such a step of the processor
 abbrev pub MeetsStop : ℕ → MachineState → LeftOut → MachineState → Type 0
-MeetsStop until old left new = ((acting : Acts until old (Stops left new)) × (acting.rank < 22)) ⊎ StretchStops until old left new
+MeetsStop until old left new = ((acting : Acts until old (Stops left new)) × (acting.rank < rank_of Nine)) ⊎ StretchStops until old left new
 
 -- the machine is this now, and the limit was raised
 abbrev pub run_to : ConsoleState → ℕ → MachineState → ConsoleState

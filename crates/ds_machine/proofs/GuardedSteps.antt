@@ -3,9 +3,10 @@ use Rattle.ds_machine.proofs.Words.{MachineState, MapState, Meaning, Nine, NineR
 use Rattle.ds_machine.proofs.Words.{RefusesNoneInRam, RegisterState, Setting, Seven, Some, Stop, Tcm, Tick, V5, Width, Write, [], ap, arith, arm9}
 use Rattle.ds_machine.proofs.Words.{blocks_processor, carried_out, channel_due, concluded, condition_of, due_by, due_then, executed_unless}
 use Rattle.ds_machine.proofs.Words.{executed_word, false, guarded_memory, holds, if◌then◌else◌, io_due, is_blocked, is_guarded, is_stalled}
-use Rattle.ds_machine.proofs.Words.{map_refusal, meaning, move_of, nat_lt, nine_executed, nine_memory, nine_refusal, nine_written, operation_meaning}
-use Rattle.ds_machine.proofs.Words.{or_parts, perform, processor_of, refl, refused_or, room_meets_none, skipped, stop_of, tcm_guarded_refusal, tcm_of}
-use Rattle.ds_machine.proofs.Words.{tcm_refusal, true, undefined_meaning, vectors_of, waiting_entries, with_value, ℕ, ◌∙◌, ◌∷◌, ◌≡◌, ◌≤◌}
+use Rattle.ds_machine.proofs.Words.{map_refusal, meaning, most_entries, move_of, nat_lt, nine_executed, nine_memory, nine_refusal, nine_written}
+use Rattle.ds_machine.proofs.Words.{operation_meaning, or_parts, perform, processor_of, refl, refused_or, room_meets_none, skipped, stop_of}
+use Rattle.ds_machine.proofs.Words.{tcm_guarded_refusal, tcm_of, tcm_refusal, true, undefined_meaning, vectors_of, waiting_entries, with_value, ℕ}
+use Rattle.ds_machine.proofs.Words.{◌-◌, ◌∙◌, ◌∷◌, ◌≡◌, ◌≤◌}
 use Rattle.ds_ports.specs.Guards.{is_overfull}
 use Rattle.ds_machine.proofs.FewAccesses.{operations_are_short}
 use Rattle.ds_machine.proofs.RamAccesses.{nine_refuses_none}
@@ -15,7 +16,7 @@ use Rattle.ds_machine.proofs.Rooms.{due_unstalled, few_have_room, instructions_f
 
 -- ---- accesses
 
-is_within : (n : ℕ) → n ≤ 320 → nat_lt 320 n ≡ false
+is_within : (n : ℕ) → n ≤ most_entries - 4 → nat_lt (most_entries - 4) n ≡ false
 is_within n h = grind (arith, h)
 
 pub unguarded : (m : MapState) (at : ℕ) → HasRoom m → is_guarded Nine m at ≡ false
@@ -94,7 +95,7 @@ pub free_then : (proc : Proc) (tick : Tick) (s : MachineState) → HasSoundParts
 free_then proc tick s sound due = free_for proc s sound (due_then (is_blocked s proc) (processor_of s proc) tick due).0
 
 -- nor does a stall hold a channel that is due
-is_less : (n : ℕ) → nat_lt 260 n ≡ false → nat_lt 320 n ≡ false
+is_less : (n : ℕ) → nat_lt 260 n ≡ false → nat_lt (most_entries - 4) n ≡ false
 is_less n h = grind (arith, h)
 
 pub channel_has_room : (proc : Proc) (channel : ℕ) (now : Tick) (u : IoState) → io_due (Dma proc channel) u ≡ Some now → is_overfull proc u ≡ false

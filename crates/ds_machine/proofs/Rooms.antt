@@ -4,12 +4,12 @@ use Rattle.ds_machine.proofs.Words.{Option, Past, Performed, Proc, Processor, Re
 use Rattle.ds_machine.proofs.Words.{Stops, Tcm, Tick, V5, Width, Write, [], accesses_of, actor_of, ap, arith, arm7, arm9, awake, blocks_processor}
 use Rattle.ds_machine.proofs.Words.{channel_due, channel_step, due_by, ended, enters, executed_word, false, fetched, goes_on, held_due, if◌then◌else◌}
 use Rattle.ds_machine.proofs.Words.{interrupt_meaning, io_due, is_blocked, is_half_empty, is_stalled, left_by, length, level_told, line_of}
-use Rattle.ds_machine.proofs.Words.{machine_concluded, machine_settled, map_after_unit, map_of, map_read_leaves, map_value, meaning, move_of}
-use Rattle.ds_machine.proofs.Words.{moved_by, nat_lt, next_unit, nine_executed, nine_memory, nine_reach, nine_side, none-some, or_parts, outcome_of}
-use Rattle.ds_machine.proofs.Words.{perform, processor_due, processor_io_triggered, processor_of, processor_step, read_leaves, reference_step, refl}
-use Rattle.ds_machine.proofs.Words.{refused_or, settled, seven_memory, seven_reach, seven_side, side_taken, step_accesses, step_by, subst, sym}
-use Rattle.ds_machine.proofs.Words.{taken_leaves, tcm_of, tcm_read, tcm_written, tick_of, true, unit_moved, unit_read, unit_refusal, unit_taken}
-use Rattle.ds_machine.proofs.Words.{waiting_entries, wakes, with_map, woken_one, ℕ, ◌*◌, ◌+◌, ◌∙◌, ◌∷◌, ◌≡◌, ◌≤◌}
+use Rattle.ds_machine.proofs.Words.{machine_concluded, machine_settled, map_after_unit, map_of, map_read_leaves, map_value, meaning, most_entries}
+use Rattle.ds_machine.proofs.Words.{move_of, moved_by, nat_lt, next_unit, nine_executed, nine_memory, nine_reach, nine_side, none-some, or_parts}
+use Rattle.ds_machine.proofs.Words.{outcome_of, perform, processor_due, processor_io_triggered, processor_of, processor_step, read_leaves}
+use Rattle.ds_machine.proofs.Words.{reference_step, refl, refused_or, settled, seven_memory, seven_reach, seven_side, side_taken, step_accesses}
+use Rattle.ds_machine.proofs.Words.{step_by, subst, sym, taken_leaves, tcm_of, tcm_read, tcm_written, tick_of, true, unit_moved, unit_read}
+use Rattle.ds_machine.proofs.Words.{unit_refusal, unit_taken, waiting_entries, wakes, with_map, woken_one, ℕ, ◌*◌, ◌+◌, ◌-◌, ◌∙◌, ◌∷◌, ◌≡◌, ◌≤◌}
 use Rattle.arm_core.specs.declared.outcomes.Stepped as arm
 use Rattle.ds_dma.specs.declared.controls.Cause.TheVariants as causes
 use Rattle.ds_runs.specs.declared.actors.Actor as actor
@@ -40,36 +40,36 @@ tcm_writes Past r at width value = nine_grows r.now r.map at width value
 abbrev waiting : NineReach → ℕ
 waiting r = waiting_entries r.map.io.gx
 
-refused_within : (stop : Option Stop) (left : NineReach) (rest : Performed NineReach) → waiting left ≤ 324 → waiting rest.state ≤ 324
-    → waiting (refused_or stop left rest).state ≤ 324
+refused_within : (stop : Option Stop) (left : NineReach) (rest : Performed NineReach) → waiting left ≤ most_entries → waiting rest.state ≤ most_entries
+    → waiting (refused_or stop left rest).state ≤ most_entries
 refused_within None left rest h k = k
 refused_within (Some stop) left rest h k = h
 
 abbrev HaveRoom : List Access → NineReach → Type 0
-HaveRoom accesses r = FindsRoom accesses r × (waiting (perform nine_memory r accesses).state ≤ 324)
+HaveRoom accesses r = FindsRoom accesses r × (waiting (perform nine_memory r accesses).state ≤ most_entries)
 
-have_room : (accesses : List Access) (r : NineReach) → AreWaiting r.map.io.gx → waiting r + 4 * length accesses ≤ 324 → HaveRoom accesses r
+have_room : (accesses : List Access) (r : NineReach) → AreWaiting r.map.io.gx → waiting r + 4 * length accesses ≤ most_entries → HaveRoom accesses r
 have_room [] r w h = (tt, omega (arith, h))
 have_room (Fetch at width ∷ rest) r w h =
-    let l : waiting r + 4 * length rest ≤ 324 = omega (arith, h) in
+    let l : waiting r + 4 * length rest ≤ most_entries = omega (arith, h) in
     let more : HaveRoom rest r = have_room rest r w l in
-    let now : waiting r ≤ 320 = omega (arith, h) in
+    let now : waiting r ≤ most_entries - 4 = omega (arith, h) in
     ((now, more.0), more.1)
 have_room (Read at width ∷ rest) r w h =
     let next : NineReach = tcm_read (tcm_of r.cp15 at false false) r at width in
     let e : next.map.io.gx ≡ r.map.io.gx = tcm_reads (tcm_of r.cp15 at false false) r at width in
     let many : waiting next ≡ waiting r = ap waiting_entries e in
-    let l : waiting next + 4 * length rest ≤ 324 = omega (arith, h, many) in
+    let l : waiting next + 4 * length rest ≤ most_entries = omega (arith, h, many) in
     let more : HaveRoom rest next = have_room rest next (subst AreWaiting (sym e) w) l in
-    let now : waiting r ≤ 320 = omega (arith, h) in
+    let now : waiting r ≤ most_entries - 4 = omega (arith, h) in
     ((now, more.0), more.1)
 have_room (Write at width value ∷ rest) r w h =
     let next : NineReach = tcm_written (tcm_of r.cp15 at true false) r at width value in
     let g : GrowsByFour r.map.io.gx next.map.io.gx = tcm_writes (tcm_of r.cp15 at true false) r at width value in
     let many : waiting next ≤ waiting r + 4 = g.entries w in
-    let l : waiting next + 4 * length rest ≤ 324 = omega (arith, h, many) in
-    let now : waiting r ≤ 320 = omega (arith, h) in
-    let left : waiting next ≤ 324 = omega (arith, now, many) in
+    let l : waiting next + 4 * length rest ≤ most_entries = omega (arith, h, many) in
+    let now : waiting r ≤ most_entries - 4 = omega (arith, h) in
+    let left : waiting next ≤ most_entries = omega (arith, now, many) in
     let more : HaveRoom rest next = have_room rest next (g.waiting left w) l in
     ((now, more.0), refused_within (nine_memory.refusal r at width value) next (perform nine_memory next rest) left more.1)
 
@@ -79,7 +79,7 @@ not_over n h = grind (arith, h)
 pub few_have_room : (accesses : List Access) (r : NineReach) → length accesses ≤ 16 → AreWaiting r.map.io.gx → is_stalled r.map.io.gx ≡ false → HaveRoom accesses r
 few_have_room accesses r few w free =
     let l : waiting r ≤ 260 = not_over (waiting r) free in
-    let h : waiting r + 4 * length accesses ≤ 324 = omega (arith, l, few) in
+    let h : waiting r + 4 * length accesses ≤ most_entries = omega (arith, l, few) in
     have_room accesses r w h
 
 pub instructions_find_room : InstructionsFindRoom
@@ -140,7 +140,7 @@ steps_find_room line s r w free =
     let few : length accesses ≤ 16 = either_few (enters line s) _ (executed_few V5 (nine_side.step.base r) s f.instr) in
     let room : HaveRoom accesses r = few_have_room accesses r few w free in
     let made = step_made s r line in
-    record { accesses = room.0; after = subst (λ (n : ℕ). n ≤ 324) (sym (ap waiting made)) room.1; made = made }
+    record { accesses = room.0; after = subst (λ (n : ℕ). n ≤ most_entries) (sym (ap waiting made)) room.1; made = made }
 
 -- ---- what follows a step leaves geometry
 
@@ -205,8 +205,8 @@ nine_steps_find_room s w free =
     steps_find_room (line_of s Nine) s.nine.processor.registers (nine_reach now s) w (or_parts (blocks_processor s.io.nine) (is_stalled s.io.gx) free).1 in record {
       step = step;
       after = λ rank is.
-          by_actor (λ (x : MachineState). waiting_entries x.io.gx ≤ 324) rank (Processor Nine) s is
-          (subst (λ (g : GxState). waiting_entries g ≤ 324) (sym (processor_leaves rank Nine s (processor_due s Nine))) step.after);
+          by_actor (λ (x : MachineState). waiting_entries x.io.gx ≤ most_entries) rank (Processor Nine) s is
+          (subst (λ (g : GxState). waiting_entries g ≤ most_entries) (sym (processor_leaves rank Nine s (processor_due s Nine))) step.after);
     }
 
 -- ---- ARM9's DMA
@@ -230,7 +230,7 @@ unit_finds_room now unit m w free =
     let l : waiting_entries m.io.gx ≤ 260 = not_over (waiting_entries m.io.gx) free in
     let many : waiting_entries (unit_taken Nine now unit m).io.gx ≡ waiting_entries m.io.gx = ap waiting_entries (taken_leaves Nine now unit m) in
     let more : waiting_entries (unit_moved Nine now unit m).io.gx ≤ waiting_entries m.io.gx + 4 = unit_grows (unit_refusal Nine now unit m) now unit m w in
-    let before : waiting_entries (unit_taken Nine now unit m).io.gx ≤ 320 = omega (arith, l, many) in
+    let before : waiting_entries (unit_taken Nine now unit m).io.gx ≤ most_entries - 4 = omega (arith, l, many) in
     record { read = omega (arith, l); write = before; after = omega (arith, l, more) }
 
 abbrev channel_came : ℕ → Proc → Option Tick → MachineState → MachineStep MachineState Shown LeftOut
@@ -254,10 +254,10 @@ nine_units_find_room now channel s w due =
     unit_finds_room now (next_unit s.io Nine) (map_of Nine s) w (due_unstalled (is_stalled s.io.gx) s.io.released (channel_due s.io.nine.dma channel) now due) in record {
       unit = unit;
       after = λ rank is.
-          by_actor (λ (x : MachineState). waiting_entries x.io.gx ≤ 324) rank (Dma Nine channel) s is
-          (subst (λ (g : GxState). waiting_entries g ≤ 324) (sym (awake_leaves (io_due (Dma Nine channel) s.io) (channel_came rank Nine (io_due (Dma Nine channel) s.io) s)))
-          (subst (λ (d : Option Tick). waiting_entries (gx_of (left_by (channel_came rank Nine d s))) ≤ 324) (sym due)
-          (subst (λ (g : GxState). waiting_entries g ≤ 324) (sym (channel_leaves rank Nine now s)) unit.after)));
+          by_actor (λ (x : MachineState). waiting_entries x.io.gx ≤ most_entries) rank (Dma Nine channel) s is
+          (subst (λ (g : GxState). waiting_entries g ≤ most_entries) (sym (awake_leaves (io_due (Dma Nine channel) s.io) (channel_came rank Nine (io_due (Dma Nine channel) s.io) s)))
+          (subst (λ (d : Option Tick). waiting_entries (gx_of (left_by (channel_came rank Nine d s))) ≤ most_entries) (sym due)
+          (subst (λ (g : GxState). waiting_entries g ≤ most_entries) (sym (channel_leaves rank Nine now s)) unit.after)));
     }
 
 -- ---- ARM7
@@ -301,16 +301,16 @@ seven_units_leave_geometry rank channel s is =
 
 -- ---- so what waits after a step, or after a unit, is no more than there is room for
 
-pub reached_within : (proc : Proc) (s : MachineState) → AreWaiting s.io.gx → is_blocked s proc ≡ false → waiting_entries (outcome proc s).machine.io.gx ≤ 324
+pub reached_within : (proc : Proc) (s : MachineState) → AreWaiting s.io.gx → is_blocked s proc ≡ false → waiting_entries (outcome proc s).machine.io.gx ≤ most_entries
 reached_within Nine s w free = (nine_steps_find_room s w free).step.after
 reached_within Seven s w free =
-    subst (λ (g : GxState). waiting_entries g ≤ 324)
+    subst (λ (g : GxState). waiting_entries g ≤ most_entries)
     (sym (seven_taken (line_of s Seven) s.seven.processor.registers (seven_reach (tick_of s.seven.processor) s))) w.entries
 
 pub unit_within : (proc : Proc) (channel : ℕ) (now : Tick) (unit : DmaUnit) (s : MachineState) → AreWaiting s.io.gx → io_due (Dma proc channel) s.io ≡ Some now
-    → waiting_entries (map_after_unit None proc now unit (map_of proc s)).io.gx ≤ 324
+    → waiting_entries (map_after_unit None proc now unit (map_of proc s)).io.gx ≤ most_entries
 unit_within Nine channel now unit s w due =
     let l : waiting_entries s.io.gx ≤ 260 =
     not_over (waiting_entries s.io.gx) (due_unstalled (is_stalled s.io.gx) s.io.released (channel_due s.io.nine.dma channel) now due) in
     omega (arith, l, unit_grows None now unit (map_of Nine s) w)
-unit_within Seven channel now unit s w due = subst (λ (g : GxState). waiting_entries g ≤ 324) (sym (seven_unit None now unit (map_of Seven s))) w.entries
+unit_within Seven channel now unit s w due = subst (λ (g : GxState). waiting_entries g ≤ most_entries) (sym (seven_unit None now unit (map_of Seven s))) w.entries

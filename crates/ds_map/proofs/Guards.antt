@@ -1,6 +1,6 @@
 use Rattle.ds_map.proofs.Words.{DmaUnit, GxState, IoState, MapState, Nine, NineReach, None, Place, Proc, Seven, Tcm, Tick, Width, ap, channel_moved}
-use Rattle.ds_map.proofs.Words.{false, if_false, map_refusal, map_written, nat_lt, nine_memory, place_of, refl, tcm_of, tcm_refusal, tcm_written}
-use Rattle.ds_map.proofs.Words.{true, unit_read, unit_taken, unit_waits, waiting_entries, ℕ, ◌∙◌, ◌≡◌}
+use Rattle.ds_map.proofs.Words.{false, if_false, map_refusal, map_written, most_entries, nat_lt, nine_memory, place_of, refl, tcm_of, tcm_refusal}
+use Rattle.ds_map.proofs.Words.{tcm_written, true, unit_read, unit_taken, unit_waits, waiting_entries, ℕ, ◌-◌, ◌∙◌, ◌≡◌}
 use Rattle.ds_map.specs.Guards.{is_guarded, guarded_memory, map_guarded, map_guarded_refusal, meets_guard, tcm_guarded, tcm_guarded_refusal}
 use Rattle.cp15_tcm.specs.declared.answers.Tcm.TheVariants.{Itcm, Dtcm, Past}
 use Rattle.ds_places.specs.declared.kinds.Place.TheVariants as place
@@ -51,7 +51,7 @@ room_meets_none proc m at h = meets_none proc (place_of proc m.io.wramcnt at) m.
 -- ---- a channel's unit has room at its write where it has some at its read
 
 same_overfull : (proc : Proc) (u v : IoState) → v.gx ≡ u.gx → is_overfull proc v ≡ is_overfull proc u
-same_overfull Nine u v e = ap (λ (g : GxState). nat_lt 320 (waiting_entries g)) e
+same_overfull Nine u v e = ap (λ (g : GxState). nat_lt (most_entries - 4) (waiting_entries g)) e
 same_overfull Seven u v e = refl
 
 pub read_leaves : (proc : Proc) (now : Tick) (unit : DmaUnit) (m : MapState) → (unit_read proc now unit m).io.gx ≡ m.io.gx

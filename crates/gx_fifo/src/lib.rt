@@ -31,6 +31,6 @@ mod gx;
 mod packed;
 mod ports;
 
-pub use entries::GxEntry;
+pub use entries::{ENTRIES, GxEntry};
 pub use gx::{Asked, Gx, saved_laws};
 pub use ports::{DISP3DCNT, ENGINE_PAST, GXFIFO, GxPort, port_at};

@@ -11,6 +11,7 @@ ghost use Rattle.ds_ports.specs.RegisterMap.{numbers_of};
 use crate::registers::Register;
 use crate::units::Units;
 use ds_base::{LeftKind, Proc, Stop, Tick, Width};
+use gx_fifo::ENTRIES;
 
 /// A number with another low or high word.
 fn with_word_of_two(which: u32, number: u64, word: u32) -> u64
@@ -129,7 +130,7 @@ impl Units {
     pub fn is_overfull(&self, proc: Proc) -> bool
         ensures { result ≡ is_overfull proc self.now }
     {
-        proc == Proc::Nine && self.gx.waiting() > 320
+        proc == Proc::Nine && self.gx.waiting() > ENTRIES as u32 - 4
     }
 
     /// A write of one of geometry's, which ARM9 alone has.

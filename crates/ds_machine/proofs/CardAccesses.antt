@@ -1,10 +1,10 @@
-use Rattle.ds_machine.proofs.Words.{Access, Auxspicnt, Byte, CardData, CardHappens, CardPasses, CardState, CardWord, Dtcm, Fetch, Half, IfSome}
-use Rattle.ds_machine.proofs.Words.{IoState, Itcm, List, MapState, MemoryMachine, Nine, NineReach, None, Option, Past, Performed, Place, Proc, Read}
+use Rattle.ds_machine.proofs.Words.{Access, Auxspicnt, Byte, CardData, CardHappens, CardPasses, CardState, CardWord, Dtcm, Fetch, Half, IoState}
+use Rattle.ds_machine.proofs.Words.{IsSlot, Itcm, List, MapState, MemoryMachine, Nine, NineReach, None, Option, Past, Performed, Place, Proc, Read}
 use Rattle.ds_machine.proofs.Words.{Register, Seven, SevenReach, Slot, Some, Stop, Tcm, Tick, Vram, Width, Word, Write, [], after_read_at}
 use Rattle.ds_machine.proofs.Words.{after_write, aligned_down, and_taken, are_all, data_port_at, either, false, is_byte_of_nine, map_read}
 use Rattle.ds_machine.proofs.Words.{map_written, meaning_of, nine_memory, passed_none, passed_one, perform, place_of, refused_or, seven_memory}
-use Rattle.ds_machine.proofs.Words.{slot_of, takes_no_bytes, tcm_of, tcm_read, tcm_written, true, vram_written, was_read, write_leaves, written_at}
-use Rattle.ds_machine.proofs.Words.{wrote, ℕ, ◌&&◌, ◌++◌, ◌∷◌}
+use Rattle.ds_machine.proofs.Words.{slot_of, some_slot, takes_no_bytes, tcm_of, tcm_read, tcm_written, true, vram_written, was_read, write_leaves}
+use Rattle.ds_machine.proofs.Words.{written_at, wrote, ℕ, ◌&&◌, ◌++◌, ◌∷◌}
 use Rattle.ds_ports.specs.Ports.{port_read, port_refusal, port_written, slot_read, unless_stopped, whole_in}
 use Rattle.ds_machine.specs.CardSteps.{map_word, place_word, register_word, slot_word, tcm_word, nine_word, seven_word, words_along, words_unless}
 use Rattle.ds_places.specs.declared.kinds.Place.TheVariants as place
@@ -49,17 +49,13 @@ module _ (file : List ℕ) where
   register_writes Seven now u CardWord number word = passes_one u.card _ None (wrote Seven number Word word now)
   register_writes Seven now u register number word = passed_none u.card
 
-  any_slot : (slot : Option Slot) → IfSome slot (λ s. Unit {0})
-  any_slot None = tt
-  any_slot (Some slot) = tt
-
   port_writes : (proc : Proc) (now : Tick) (u : IoState) (at : ℕ) (width : Width) (value : ℕ)
       → CardPasses file u.card [] (port_written proc now u at width value).card
   port_writes proc now u at width value =
-      write_leaves (λ s. Unit {0}) proc now (λ x y. CardPasses file x.card [] y.card) (λ x. passed_none x.card)
+      write_leaves IsSlot proc now (λ x y. CardPasses file x.card [] y.card) (λ x. passed_none x.card)
       (λ x y z g h. joins x.card y.card z.card [] [] g h)
       (λ x slot word own. register_writes proc now x slot.register slot.number word) u at width value
-      (are_all (λ s. Unit {0}) proc (λ k. any_slot (slot_of proc k)) at width)
+      (are_all IsSlot proc (some_slot proc) at width)
 
   -- a read of a register: the card's data gives a word where one is ready for the reader, and all others leave the card
   register_reads : (proc : Proc) (now : Tick) (u : IoState) (register : Register)

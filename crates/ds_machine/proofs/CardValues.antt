@@ -1,9 +1,9 @@
 use Rattle.ds_machine.proofs.Words.{Bool, Byte, CardData, Dtcm, Half, IfSome, IoState, IsSlot, Itcm, MapState, Nine, NineReach, None, Option, Past}
 use Rattle.ds_machine.proofs.Words.{Place, Proc, Register, Seven, Slot, Some, Tcm, Tick, Width, Word, aligned_down, ap, arith, card_byte}
 use Rattle.ds_machine.proofs.Words.{data_port_at, false, le_of, map_value, meaning_of, nat_le, none-some, place_of, refl, slot_of, tcm_of, true}
-use Rattle.ds_machine.proofs.Words.{unwrap_or, value_at, value_by, width_bytes, ℕ, ◌%◌, ◌*◌, ◌+◌, ◌^◌, ◌∙◌, ◌≡◌, ◌≤◌}
+use Rattle.ds_machine.proofs.Words.{unwrap_or, value_at, value_by, width_bytes, ℕ, ◌%◌, ◌+◌, ◌^◌, ◌∙◌, ◌≡◌, ◌≤◌}
 use Rattle.ds_machine.proofs.NineReads.{tcm_value}
-use Rattle.ds_ports.specs.Ports.{whole_if, whole_in, part, port_half, port_value, read_or}
+use Rattle.ds_ports.specs.Ports.{whole_if, whole_in, part, port_value, read_or, values_from}
 use Rattle.ds_machine.specs.CardSteps.{map_word, place_word, register_word, slot_word, tcm_word, LoadsGiveWords, ReadsGiveWords}
 use Rattle.ds_places.specs.declared.kinds.Place.TheVariants as place
 use Rattle.ds_ports.proofs.RegisterMaps.{some_slot}
@@ -41,8 +41,7 @@ place_gives : (proc : Proc) (now : Tick) (where_ : Place) (m : MapState) (width 
 unfolding port_value
 place_gives proc now (place.Port at) m Word word h =
     let down = aligned_down Word at in
-    slot_gives proc now m.io word (slot_of proc down)
-    (port_half proc now m.io down + 2 ^ 16 * port_half proc now m.io (down + 2)) (some_slot proc down) h
+    slot_gives proc now m.io word (slot_of proc down) (values_from proc now m.io down 4) (some_slot proc down) h
 place_gives proc now (place.Port at) m Byte word h = absurd (none-some word h)
 place_gives proc now (place.Port at) m Half word h = absurd (none-some word h)
 place_gives proc now (place.Cell memory at) m width word h = absurd (none-some word h)

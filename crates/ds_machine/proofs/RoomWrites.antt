@@ -1,9 +1,9 @@
-use Rattle.ds_machine.proofs.Words.{AreWaiting, Byte, Dmacnt, GxState, Half, Haltcnt, IoState, MapState, Nine, None, Option, Place, Proc}
-use Rattle.ds_machine.proofs.Words.{ProcessorIoState, Register, Seven, Slot, Some, Stop, Tick, Vram, Width, Word, after_write, aligned_down, arith}
-use Rattle.ds_machine.proofs.Words.{either, gx_set, is_byte_of_nine, map_written, most_entries, place_of, refl, slot_of, subst, sym, takes_no_bytes}
-use Rattle.ds_machine.proofs.Words.{vram_written, waiting_entries, with_io_of, written_at, written_waiting, ℕ, ◌&&◌, ◌+◌, ◌/◌, ◌^◌, ◌∙◌, ◌≡◌, ◌≤◌}
-use Rattle.ds_ports.specs.Ports.{ignores, port_refusal, port_written, slot_joined, unless_stopped, whole_in, byte_written, half_written, slot_written}
-use Rattle.ds_ports.specs.Ports.{word_written, written_or}
+use Rattle.ds_machine.proofs.Words.{AreWaiting, Byte, Dmacnt, GxState, Half, Haltcnt, IoState, IsSlot, MapState, Nine, None, Option, Place, Proc}
+use Rattle.ds_machine.proofs.Words.{ProcessorIoState, Register, Seven, Some, Stop, Tick, Vram, Width, Word, after_write, aligned_down, are_all, arith}
+use Rattle.ds_machine.proofs.Words.{either, gx_set, is_byte_of_nine, map_written, most_entries, place_of, refl, some_slot, subst, sym, takes_no_bytes}
+use Rattle.ds_machine.proofs.Words.{vram_written, waiting_entries, width_bytes, with_io_of, write_leaves, written_at, written_waiting, ℕ, ◌%◌, ◌&&◌}
+use Rattle.ds_machine.proofs.Words.{◌+◌, ◌∙◌, ◌≡◌, ◌≤◌}
+use Rattle.ds_ports.specs.Ports.{port_refusal, port_written, unless_stopped}
 use Rattle.ds_places.specs.declared.kinds.Place.TheVariants as place
 use Rattle.ds_ports.specs.declared.registers.Register.TheVariants.{GxWord, GxCommand, Dmasad, Dmadad, TmcntL, TmcntH, Keycnt, Ime, Ie, If}
 use Rattle.ds_ports.proofs.Grows.{write_grows}
@@ -37,42 +37,20 @@ module _ (proc : Proc) (now : Tick) (R : GxState → GxState → Type 0) (same :
   register_makes u Haltcnt number value = own u _
   register_makes u _ number value = same u.gx
 
-  slot_makes : (u : IoState) (width : Width) (slot : Slot) (value : ℕ) → R u.gx (slot_written proc now u width slot value).gx
-  slot_makes u width slot value =
-      either (λ (v : IoState). R u.gx v.gx) (ignores width slot.register) u _ (same u.gx)
-      (register_makes u slot.register slot.number (slot_joined proc u width slot value))
-
-  or_makes : (u : IoState) (width : Width) (slot : Option Slot) (value : ℕ) (other : IoState) → R u.gx other.gx → R u.gx (written_or proc now u width slot value other).gx
-  or_makes u width None value other h = h
-  or_makes u width (Some slot) value other h = slot_makes u width slot value
-
-  byte_makes : (u : IoState) (at value : ℕ) → R u.gx (byte_written proc now u at value).gx
-  byte_makes u at value = or_makes u Byte (slot_of proc at) value u (same u.gx)
-
-  half_makes : (u : IoState) (at value : ℕ) → R u.gx (half_written proc now u at value).gx
-  half_makes u at value =
-      let first = byte_written proc now u at value in
-      let second = byte_written proc now first (at + 1) (value / 2 ^ 8) in
-      or_makes u Half (whole_in Half (slot_of proc at)) value second
-      (joins u.gx first.gx second.gx (byte_makes u at value) (byte_makes first (at + 1) (value / 2 ^ 8)))
-
-  word_makes : (u : IoState) (at value : ℕ) → R u.gx (word_written proc now u at value).gx
-  word_makes u at value =
-      let first = half_written proc now u at value in
-      let second = half_written proc now first (at + 2) (value / 2 ^ 16) in
-      or_makes u Word (whole_in Word (slot_of proc at)) value second
-      (joins u.gx first.gx second.gx (half_makes u at value) (half_makes first (at + 2) (value / 2 ^ 16)))
-
   port_makes : (u : IoState) (at : ℕ) (width : Width) (value : ℕ) → R u.gx (port_written proc now u at width value).gx
-  unfolding port_written
-  port_makes u at Byte value = byte_makes u at value
-  port_makes u at Half value = half_makes u at value
-  port_makes u at Word value = word_makes u at value
+  port_makes u at width value =
+      write_leaves IsSlot proc now (λ x y. R x.gx y.gx) (λ x. same x.gx) (λ x y z. joins x.gx y.gx z.gx)
+      (λ x slot word own. register_makes x slot.register slot.number word) u at width value (are_all IsSlot proc (some_slot proc) at width)
 
 -- ---- and so does a write of the map
 
+aligned_even : (width : Width) (at : ℕ) → aligned_down width at % width_bytes width ≡ 0
+aligned_even Byte at = omega arith
+aligned_even Half at = omega arith
+aligned_even Word at = omega arith
+
 module _ (proc : Proc) (now : Tick) (R : GxState → GxState → Type 0) (same : (g : GxState) → R g g)
-    (port : (u : IoState) (at : ℕ) (width : Width) (value : ℕ) → R u.gx (port_written proc now u at width value).gx) where
+    (port : (u : IoState) (at : ℕ) (width : Width) (value : ℕ) → at % width_bytes width ≡ 0 → R u.gx (port_written proc now u at width value).gx) where
   unless_makes : (u v : IoState) (refusal : Option Stop) → R u.gx v.gx → R u.gx (unless_stopped refusal u v).gx
   unless_makes u v None h = h
   unless_makes u v (Some stop) h = same u.gx
@@ -84,7 +62,8 @@ module _ (proc : Proc) (now : Tick) (R : GxState → GxState → Type 0) (same :
       either (λ (x : MapState). R m.io.gx x.io.gx) (is_byte_of_nine proc width && takes_no_bytes Vram) m banks (same m.io.gx) (same m.io.gx)
   place_makes m (place.Port at) width value =
       let down = aligned_down width at in
-      unless_makes m.io (port_written proc now m.io down width value) (port_refusal proc m.io down width value) (port m.io down width value)
+      unless_makes m.io (port_written proc now m.io down width value) (port_refusal proc m.io down width value)
+      (port m.io down width value (aligned_even width at))
   place_makes m (place.Rom at) width value = same m.io.gx
   place_makes m place.Nothing width value = same m.io.gx
 
@@ -114,10 +93,11 @@ pub record GrowsByFour (old new : GxState) : Type 0 where
 pub no_growth : (g : GxState) → GrowsByFour g g
 no_growth g = record { waiting = λ room w. w; entries = λ w. omega arith }
 
-port_grows : (now : Tick) (u : IoState) (at : ℕ) (width : Width) (value : ℕ) → GrowsByFour u.gx (port_written Nine now u at width value).gx
-port_grows now u at width value = record {
+port_grows : (now : Tick) (u : IoState) (at : ℕ) (width : Width) (value : ℕ) → at % width_bytes width ≡ 0
+    → GrowsByFour u.gx (port_written Nine now u at width value).gx
+port_grows now u at width value even = record {
   waiting = (port_makes Nine now Waits waits_still waits_on (set_waits now) u at width value).1;
-  entries = write_grows Nine now u at width value;
+  entries = write_grows Nine now u at width value even;
 }
 
 pub nine_grows : (now : Tick) (m : MapState) (at : ℕ) (width : Width) (value : ℕ) → GrowsByFour m.io.gx (map_written Nine now m at width value).io.gx
@@ -128,8 +108,9 @@ nine_grows now m at width value = map_makes Nine now GrowsByFour no_growth (port
 abbrev Stays : GxState → GxState → Type 0
 Stays old new = new ≡ old
 
-port_stays : (now : Tick) (u : IoState) (at : ℕ) (width : Width) (value : ℕ) → Stays u.gx (port_written Seven now u at width value).gx
-port_stays now u at width value = port_makes Seven now Stays (λ g. refl) (λ a b c h k. k ∙ h) (λ v n w. refl) u at width value
+port_stays : (now : Tick) (u : IoState) (at : ℕ) (width : Width) (value : ℕ) → at % width_bytes width ≡ 0
+    → Stays u.gx (port_written Seven now u at width value).gx
+port_stays now u at width value even = port_makes Seven now Stays (λ g. refl) (λ a b c h k. k ∙ h) (λ v n w. refl) u at width value
 
 pub seven_stays : (now : Tick) (m : MapState) (at : ℕ) (width : Width) (value : ℕ) → (map_written Seven now m at width value).io.gx ≡ m.io.gx
 seven_stays now m at width value = map_makes Seven now Stays (λ g. refl) (port_stays now) m at width value

@@ -1,19 +1,19 @@
-use Rattle.ds_machine.proofs.Words.{Access, Arch, Auxspicnt, Banks, Bool, Byte, CardState, CardWord, Cell, Cost, Cp15State, Dma, Dmacnt, Dtcm, Fetch}
-use Rattle.ds_machine.proofs.Words.{Half, Haltcnt, Halted, Instr, IoState, Itcm, Left, LeftOut, List, MachineState, MachineStep, Makes, MapState}
-use Rattle.ds_machine.proofs.Words.{Meaning, MemoryMachine, MoveOutcome, Moved, Nine, NineReach, None, Nothing, Option, Outcome, Past, Performed}
-use Rattle.ds_machine.proofs.Words.{Port, Proc, Processor, Read, Register, RegisterState, Rom, Setting, Seven, SevenReach, Shown, SideOf, Slot, Some}
-use Rattle.ds_machine.proofs.Words.{Stop, Stops, Swi, Tcm, ThumbSwi, Tick, Video, VideoState, Width, Word, Write, [], actor_of, aligned_down}
-use Rattle.ds_machine.proofs.Words.{answer_unless, arm7, arm9, awake, bit, bits, carried_out, carried_over, channel_at, channel_step, concluded}
-use Rattle.ds_machine.proofs.Words.{condition, condition_of, due_by, either, enters, executed_unless, executed_word, false, fetched, holds}
-use Rattle.ds_machine.proofs.Words.{if◌then◌else◌, in_ticks, interrupt_meaning, io_due, io_of, is_served, line_of, machine_concluded, map, map_of}
-use Rattle.ds_machine.proofs.Words.{map_refusal, meaning, meaning_of, move_of, moved_by, moved_if, next_unit, nine_executed, nine_memory, nine_reach}
-use Rattle.ds_machine.proofs.Words.{nine_side, not, outcome_of, perform, place_of, processor_of, refusal_at, refused_or, register, register_moved}
-use Rattle.ds_machine.proofs.Words.{seven_memory, seven_reach, seven_side, side_taken, side_waits, skipped, slot_of, start_refusal, step_by, stop_of}
-use Rattle.ds_machine.proofs.Words.{subst, swi_stop, taken, tcm_of, tcm_refusal, tick_of, true, undefined_meaning, unit_moved, unit_refusal}
-use Rattle.ds_machine.proofs.Words.{video_shown, video_step, video_stop, with_map, written_by, ℕ, ◌%◌, ◌&&◌, ◌+◌, ◌/◌, ◌==◌, ◌^◌, ◌||◌, ◌∷◌, ◌≢◌}
+use Rattle.ds_machine.proofs.Words.{Access, Arch, Auxspicnt, Banks, Bool, CardState, CardWord, Cell, Cost, Cp15State, Dma, Dmacnt, Dtcm, Fetch, Half}
+use Rattle.ds_machine.proofs.Words.{Haltcnt, Halted, Instr, IoState, Itcm, Left, LeftOut, List, MachineState, MachineStep, Makes, MapState, Meaning}
+use Rattle.ds_machine.proofs.Words.{MemoryMachine, MoveOutcome, Moved, Nine, NineReach, None, Nothing, Option, Outcome, Past, Performed, Port, Proc}
+use Rattle.ds_machine.proofs.Words.{Processor, Read, Register, RegisterState, Rom, Setting, Seven, SevenReach, Shown, SideOf, Some, Stop, Stops, Swi}
+use Rattle.ds_machine.proofs.Words.{Tcm, ThumbSwi, Tick, Video, VideoState, Width, Word, Write, [], actor_of, aligned_down, answer_unless, arm7, arm9}
+use Rattle.ds_machine.proofs.Words.{awake, bit, bits, carried_out, carried_over, channel_at, channel_step, concluded, condition, condition_of, due_by}
+use Rattle.ds_machine.proofs.Words.{either, enters, executed_unless, executed_word, false, fetched, holds, if◌then◌else◌, in_ticks, interrupt_meaning}
+use Rattle.ds_machine.proofs.Words.{io_due, io_of, is_served, line_of, machine_concluded, map, map_of, map_refusal, meaning, meaning_of, move_of}
+use Rattle.ds_machine.proofs.Words.{moved_by, moved_if, next_unit, nine_executed, nine_memory, nine_reach, nine_side, not, outcome_of, perform}
+use Rattle.ds_machine.proofs.Words.{place_of, processor_of, refusal_at, refusal_is_so, refused_or, register, register_moved, seven_memory}
+use Rattle.ds_machine.proofs.Words.{seven_reach, seven_side, side_taken, side_waits, skipped, start_refusal, step_by, stop_of, subst, swi_stop, taken}
+use Rattle.ds_machine.proofs.Words.{tcm_of, tcm_refusal, tick_of, true, undefined_meaning, unit_moved, unit_refusal, video_shown, video_step}
+use Rattle.ds_machine.proofs.Words.{video_stop, with_map, written_by, ℕ, ◌%◌, ◌&&◌, ◌/◌, ◌==◌, ◌^◌, ◌||◌, ◌∷◌, ◌≢◌}
 use Rattle.cp15_tcm.specs.Registers.{Cp15Register, write_answer, asks_big_endian}
 use Rattle.ds_dma.specs.Controls.{is_enabled, is_left_out, kept_channel_control, refusal}
-use Rattle.ds_ports.specs.Ports.{ignores, port_refusal, slot_joined, whole_in, byte_refusal, half_refusal, refusal_or, slot_refusal, word_refusal}
+use Rattle.ds_ports.specs.Ports.{port_refusal}
 use Rattle.std.specs.List.{range_with_len}
 use Rattle.ds_base.specs.declared.left_out.LeftKind.{LeftKind}
 use Rattle.ds_base.specs.declared.left_out.LeftKind.TheVariants as kinds
@@ -33,7 +33,6 @@ use Rattle.video2d.specs.declared.engines.Engine.{Engine}
 use Rattle.video2d.specs.declared.engines.Engine.TheVariants.{A, B}
 use Rattle.video2d.specs.declared.videos.Shown as display
 use Rattle.ds_machine.specs.Stopping.{NoStopIsNotYet}
-use Rattle.std.specs.Option.{option_or}
 
 -- No step stops for want of what isn't built yet.
 
@@ -59,10 +58,6 @@ stop_unless false stop h = h
 named_if : (b : Bool) (stop : Option Stop) → IsNamed stop → IsNamed (if b then stop else None)
 named_if true stop h = h
 named_if false stop h = tt
-
-named_unless : (b : Bool) (stop : Option Stop) → IsNamed stop → IsNamed (if b then None else stop)
-named_unless true stop h = tt
-named_unless false stop h = h
 
 -- ---- the display's
 
@@ -155,35 +150,8 @@ module _ (proc : Proc) (u : IoState) where
   register_named n word Haltcnt = halt_named (word % 2 ^ 8)
   register_named n word _ = tt
 
-  slot_named : (width : Width) (slot : Slot) (value : ℕ) → IsNamed (slot_refusal proc u width slot value)
-  slot_named width slot value =
-      named_unless (ignores width slot.register) ((meaning_of slot.register).refusal proc u slot.number (slot_joined proc u width slot value))
-      (register_named slot.number (slot_joined proc u width slot value) slot.register)
-
-  either_named : (width : Width) (slot : Option Slot) (value : ℕ) (other : Option Stop) → IsNamed other → IsNamed (refusal_or proc u width slot value other)
-  either_named width None value other h = h
-  either_named width (Some slot) value other h = slot_named width slot value
-
-  both_named : (one two : Option Stop) → IsNamed one → IsNamed two → IsNamed (option_or one two)
-  both_named None two h k = k
-  both_named (Some stop) two h k = h
-
-  byte_named : (at value : ℕ) → IsNamed (byte_refusal proc u at value)
-  byte_named at value = either_named Byte (slot_of proc at) value None tt
-
-  half_named : (at value : ℕ) → IsNamed (half_refusal proc u at value)
-  half_named at value =
-      either_named Half (whole_in Half (slot_of proc at)) value _ (both_named (byte_refusal proc u at value) (byte_refusal proc u (at + 1) (value / 2 ^ 8)) (byte_named at value) (byte_named (at + 1) (value / 2 ^ 8)))
-
-  word_named : (at value : ℕ) → IsNamed (word_refusal proc u at value)
-  word_named at value =
-      either_named Word (whole_in Word (slot_of proc at)) value _ (both_named (half_refusal proc u at value) (half_refusal proc u (at + 2) (value / 2 ^ 16)) (half_named at value) (half_named (at + 2) (value / 2 ^ 16)))
-
   port_named : (at : ℕ) (width : Width) (value : ℕ) → IsNamed (port_refusal proc u at width value)
-  unfolding port_refusal
-  port_named at Byte value = byte_named at value
-  port_named at Half value = half_named at value
-  port_named at Word value = word_named at value
+  port_named at width value = refusal_is_so proc u IsNamed tt (λ register n word. register_named n word register) at width value
 
 place_named : (proc : Proc) (p : place.Place) (m : MapState) (width : Width) (value : ℕ) → IsNamed (refusal_at proc p m width value)
 place_named proc (Cell memory at) m width value = tt

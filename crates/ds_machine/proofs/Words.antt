@@ -125,7 +125,7 @@ pub use Rattle.ds_places.proofs.Rows.{from_same, in_row, past_row, port_place, u
 pub use Rattle.ds_places.specs.AddressTables.{place_of, regions_of_nine, shared_for_nine}
 pub use Rattle.ds_places.specs.declared.kinds.Place.{Place}
 pub use Rattle.ds_places.specs.declared.kinds.Place.TheVariants.{Banks, Cell, Nothing, Port, Rom}
-pub use Rattle.ds_ports.proofs.Covered.{are_all, covers_all, write_leaves}
+pub use Rattle.ds_ports.proofs.Covered.{are_all, covers_all, refusal_is_so, write_leaves}
 pub use Rattle.ds_ports.proofs.Events.{Happens, MovedGoes, done_video, event_goes, happened_scan, happened_whole, happens_on, keys_happen, moved_goes}
 pub use Rattle.ds_ports.proofs.Events.{show_goes, some_due}
 pub use Rattle.ds_ports.proofs.Later.{ReadLeaves, all_io_dues, goes_io, of_both, processor_io_is, still_later, unchanged_same}
@@ -137,6 +137,7 @@ pub use Rattle.ds_ports.specs.Io.{both_raised, card_done_at, channel_comes_befor
 pub use Rattle.ds_ports.specs.Io.{io_event, io_of, is_held, is_settled, keys_pressed, level_told, release_by, release_kept, release_of, settled}
 pub use Rattle.ds_ports.specs.Io.{shown_to_others, stall_ends, starter_told, tick_after, video_done, with_gx, with_halted, with_io_of}
 pub use Rattle.ds_ports.specs.ProcessorIo.{ProcessorIoState, blocks_processor, processor_io_at_boot, processor_io_triggered}
+pub use Rattle.ds_ports.proofs.RegisterMaps.{some_slot}
 pub use Rattle.ds_ports.specs.RegisterMap.{IsSlot, PortRow, row_bytes, slot_of}
 pub use Rattle.ds_ports.specs.Registers.{after_write, gx_set, meaning_of}
 pub use Rattle.ds_ports.specs.WithinLaws.{IsBy, IsPastBy, IsSoonBy}

@@ -1,5 +1,4 @@
 use Rattle.std.specs.Prelude.{ℕ, ◌≡◌, ◌==◌, nat_le, nat_lt, not, Bool, true, false, if◌then◌else◌, List, [], length}
-use Rattle.ds_places.specs.declared.kinds.Place.TheVariants.{Banks}
 use Rattle.ds_ports.specs.declared.units.IoParts.{IoParts as IoState}
 use Rattle.ds_ports.specs.Io.{with_shares}
 use Rattle.vram_banks.specs.Cells as cells

@@ -31,7 +31,7 @@ use ds_base::{
 use ds_places::{
     MAIN_FIRST, Place, is_main, main_cell, memory_wait, own_cell, place, port_at, rom_word, wait,
 };
-use ds_ports::{Io, part};
+use ds_ports::{Io, aligned_down, part};
 pub use looks::looked_by_nine;
 use std::alloc::{AllocError, Global};
 use std::marker::Model;
@@ -230,7 +230,7 @@ impl Map {
         match place {
             Place::Cell { memory, at } => self.cell(memory, at, width),
             Place::Banks { space, at } => io.vram().read(space, at, width),
-            Place::Port(at) => io.take(proc, now, aligned_down(width, at), width),
+            Place::Port(at) => io.take(proc, now, at, width),
             Place::Rom(at) => rom_value(proc, aligned_down(width, at), width),
             Place::Nothing => 0,
         }
@@ -299,7 +299,7 @@ impl Map {
                 }
                 None
             }
-            Place::Port(at) => io.put(proc, now, aligned_down(width, at), width, value),
+            Place::Port(at) => io.put(proc, now, at, width, value),
             Place::Rom(_) | Place::Nothing => None,
         }
     }
@@ -324,7 +324,7 @@ impl Map {
         ensures value { result ≡ value_at proc now (Port port) (map_seen proc self.now io.old) width }
         ensures next { map_seen proc self.now io.new ≡ after_read_at proc now (Port port) (map_seen proc self.now io.old) width }
     {
-        io.take(proc, now, aligned_down(width, port), width)
+        io.take(proc, now, port, width)
     }
 
     /// What a processor reads at an address at a tick, past the tightly coupled memories, how long it waits, and the read: of a port it may change
@@ -586,20 +586,6 @@ fn takes_no_bytes(memory: Memory) -> bool
     ensures { result ≡ takes_no_bytes memory }
 {
     matches!(memory, Memory::Palette | Memory::Vram | Memory::Oam)
-}
-
-/// An offset of a port or into the boot ROM, aligned down to an access's width.
-#[inline(always)]
-fn aligned_down(width: Width, at: u32) -> u32
-    requires { at < 2 ^ 24 }
-    ensures value { result ≡ aligned_down width at }
-    ensures within { result < 2 ^ 24 }
-{
-    match width {
-        Width::Byte => at,
-        Width::Half => at - at % 2,
-        Width::Word => at - at % 4,
-    }
 }
 
 /// What is read of the boot ROM at an offset that is aligned down.

@@ -1,9 +1,9 @@
 use Rattle.ds_ports.proofs.Words.{Bool, Byte, Half, IfSome, IoState, None, Option, PortRow, Proc, Register, Slot, Some, Stop, Tick, Width, Word}
-use Rattle.ds_ports.proofs.Words.{after_write, ap, arith, byte_refusal, byte_written, either, false, half_refusal, half_written, if◌then◌else◌}
-use Rattle.ds_ports.proofs.Words.{ignores, inl, inr, meaning_of, never, one_of, option_or, part, port_byte, port_half, port_read, port_refusal}
-use Rattle.ds_ports.proofs.Words.{port_value, port_word, port_written, read_or, refl, refusal_or, register_map, slot_joined, slot_of, slot_read}
-use Rattle.ds_ports.proofs.Words.{slot_refusal, slot_value, slot_written, subst, sym, true, true≢false, whole_if, whole_in, width_bytes}
-use Rattle.ds_ports.proofs.Words.{with_bytes_from, word_refusal, word_written, written_or, ℕ, ◌*◌, ◌+◌, ◌-◌, ◌/◌, ◌<◌, ◌^◌, ◌||◌, ◌∙◌, ◌≡◌}
+use Rattle.ds_ports.proofs.Words.{after_write, ap, arith, ascending, begun_refusal, begun_value, begun_written, either, false, first_refusal}
+use Rattle.ds_ports.proofs.Words.{if◌then◌else◌, ignores, inl, inr, meaning_of, never, one_of, option_or, part, port_read, port_refusal, port_value}
+use Rattle.ds_ports.proofs.Words.{port_written, read_or, refl, refusal_or, register_map, slot_joined, slot_of, slot_read, slot_refusal, slot_value}
+use Rattle.ds_ports.proofs.Words.{slot_written, subst, suc, sym, true, true≢false, values_from, whole_if, whole_in, width_bytes, width_of}
+use Rattle.ds_ports.proofs.Words.{with_bytes_from, written_or, zero, ℕ, ◌*◌, ◌+◌, ◌-◌, ◌/◌, ◌<◌, ◌==◌, ◌^◌, ◌||◌, ◌∙◌, ◌≡◌}
 use Rattle.ds_ports.proofs.RegisterMaps.{all_rows, each_place, lies_in, of_place, slot_by_all}
 
 -- A law of the registers of which an access covers bytes is a law of the access.
@@ -44,40 +44,45 @@ slot_is skips kind proc at h out =
 
 -- ---- the registers of which an access covers bytes
 
+abbrev AreFrom : (Slot → Type 0) → Proc → ℕ → ℕ → Type 0
+AreFrom Q proc at zero = Unit {0}
+AreFrom Q proc at (suc n) = IfSome (slot_of proc at) Q × AreFrom Q proc (at + 1) n
+
 abbrev pub AreAll : (Slot → Type 0) → Proc → ℕ → Width → Type 0
-AreAll Q proc at Byte = IfSome (slot_of proc at) Q
-AreAll Q proc at Half = IfSome (slot_of proc at) Q × IfSome (slot_of proc (at + 1)) Q
-AreAll Q proc at Word = (IfSome (slot_of proc at) Q × IfSome (slot_of proc (at + 1)) Q) × (IfSome (slot_of proc (at + 2)) Q × IfSome (slot_of proc (at + 2 + 1)) Q)
+AreAll Q proc at width = AreFrom Q proc at (width_bytes width)
 
 -- they are of a kind
 abbrev pub Covers : (Register → Bool) → Proc → ℕ → Width → Type 0
 Covers kind proc at width = AreAll (Of kind) proc at width
 
-abbrev pub ByteIs : (Register → Bool) → Proc → ℕ → Type 0
-ByteIs kind proc at = Covers kind proc at Byte
+module _ (Q : Slot → Type 0) (proc : Proc) where
+  first_is : (at : ℕ) (width : Width) → AreAll Q proc at width → IfSome (slot_of proc at) Q
+  first_is at Byte h = h.0
+  first_is at Half h = h.0
+  first_is at Word h = h.0
 
-abbrev pub HalfIs : (Register → Bool) → Proc → ℕ → Type 0
-HalfIs kind proc at = Covers kind proc at Half
+  -- what holds at each offset holds of each of its bytes
+  all_from : ((at : ℕ) → IfSome (slot_of proc at) Q) → (at n : ℕ) → AreFrom Q proc at n
+  all_from h at zero = tt
+  all_from h at (suc n) = (h at, all_from h (at + 1) n)
 
-abbrev pub WordIs : (Register → Bool) → Proc → ℕ → Type 0
-WordIs kind proc at = Covers kind proc at Word
+  pub are_all : ((at : ℕ) → IfSome (slot_of proc at) Q) → (at : ℕ) (width : Width) → AreAll Q proc at width
+  are_all h at width = all_from h at (width_bytes width)
 
--- what holds at each offset holds of each of its bytes
-pub are_all : (Q : Slot → Type 0) (proc : Proc) → ((at : ℕ) → IfSome (slot_of proc at) Q) → (at : ℕ) (width : Width) → AreAll Q proc at width
-are_all Q proc h at Byte = h at
-are_all Q proc h at Half = (h at, h (at + 1))
-are_all Q proc h at Word = ((h at, h (at + 1)), (h (at + 2), h (at + 2 + 1)))
+  -- so it is where it holds of each of its bytes
+  each_from : (n at : ℕ) → ((k : ℕ) → k < n → IfSome (slot_of proc (at + k)) Q) → AreFrom Q proc at n
+  each_from zero at h = tt
+  each_from (suc n) at h =
+      let e : at + 0 ≡ at = omega arith in (
+        subst (λ (k : ℕ). IfSome (slot_of proc k) Q) e (h 0 (omega arith)),
+        each_from n (at + 1) (λ k l.
+            (let f : at + (k + 1) ≡ at + 1 + k = omega arith in
+            subst (λ (j : ℕ). IfSome (slot_of proc j) Q) f (h (k + 1) (omega (arith, l))))),
+      )
 
--- so it is where each of its bytes is of one
-module _ (kind : Register → Bool) (proc : Proc) where
-  byte_at : (at k j : ℕ) → at + k ≡ j → ByteIs kind proc (at + k) → ByteIs kind proc j
-  byte_at at k j e h = subst (ByteIs kind proc) e h
-
-  pub covers : (at : ℕ) (width : Width) → ((k : ℕ) → k < width_bytes width → IfSome (slot_of proc (at + k)) (λ s. kind s.register ≡ true)) → Covers kind proc at width
-  covers at Byte h = byte_at at 0 at (omega arith) (h 0 (omega arith))
-  covers at Half h = (byte_at at 0 at (omega arith) (h 0 (omega arith)), h 1 (omega arith))
-  covers at Word h =
-      ((byte_at at 0 at (omega arith) (h 0 (omega arith)), h 1 (omega arith)), (h 2 (omega arith), byte_at at 3 (at + 2 + 1) (omega arith) (h 3 (omega arith))))
+pub covers : (kind : Register → Bool) (proc : Proc) (at : ℕ) (width : Width)
+    → ((k : ℕ) → k < width_bytes width → IfSome (slot_of proc (at + k)) (λ s. kind s.register ≡ true)) → Covers kind proc at width
+covers kind proc at width h = each_from (Of kind) proc (width_bytes width) at h
 
 -- and where all registers of the map are of one
 pub covers_all : (kind : Register → Bool) (proc : Proc) (at : ℕ) (width : Width) → all_rows (row_is no_row kind) (register_map proc) ≡ true → Covers kind proc at width
@@ -105,28 +110,24 @@ module _ (Q : Slot → Type 0) (proc : Proc) (now : Tick) (R : IoState → IoSta
   or_leaves u width None value other h r = r
   or_leaves u width (Some slot) value other h r = slot_leaves u width slot value h
 
-  byte_leaves : (u : IoState) (at value : ℕ) → AreAll Q proc at Byte → R u (byte_written proc now u at value)
-  byte_leaves u at value h = or_leaves u Byte (slot_of proc at) value u h (same u)
+  begun_leaves : (u : IoState) (slot : Option Slot) (value : ℕ) → IfSome slot Q → R u (begun_written proc now u slot value)
+  begun_leaves u None value h = same u
+  begun_leaves u (Some slot) value h =
+      let width = width_of slot.bytes in
+      either (R u) (slot.byte == 0) (slot_written proc now u width slot value) u (slot_leaves u width slot value h) (same u)
 
-  half_leaves : (u : IoState) (at value : ℕ) → AreAll Q proc at Half → R u (half_written proc now u at value)
-  half_leaves u at value h =
-      let first = byte_written proc now u at value in
-      let second = byte_written proc now first (at + 1) (value / 2 ^ 8) in
-      or_leaves u Half (whole_in Half (slot_of proc at)) value second (whole_is Q Half (slot_of proc at) h.0)
-      (joined u first second (byte_leaves u at value h.0) (byte_leaves first (at + 1) (value / 2 ^ 8) h.1))
-
-  word_leaves : (u : IoState) (at value : ℕ) → AreAll Q proc at Word → R u (word_written proc now u at value)
-  word_leaves u at value h =
-      let first = half_written proc now u at value in
-      let second = half_written proc now first (at + 2) (value / 2 ^ 16) in
-      or_leaves u Word (whole_in Word (slot_of proc at)) value second (whole_is Q Word (slot_of proc at) h.0.0)
-      (joined u first second (half_leaves u at value h.0) (half_leaves first (at + 2) (value / 2 ^ 16) h.1))
+  walk_leaves : (n : ℕ) (u : IoState) (at value : ℕ) → AreFrom Q proc at n → R u (ascending proc now u at value n)
+  walk_leaves zero u at value h = same u
+  walk_leaves (suc n) u at value h =
+      let first = begun_written proc now u (slot_of proc at) value in
+      joined u first (ascending proc now first (at + 1) (value / 2 ^ 8) n) (begun_leaves u (slot_of proc at) value h.0)
+      (walk_leaves n first (at + 1) (value / 2 ^ 8) h.1)
 
   pub write_leaves : (u : IoState) (at : ℕ) (width : Width) (value : ℕ) → AreAll Q proc at width → R u (port_written proc now u at width value)
   unfolding port_written
-  write_leaves u at Byte value h = byte_leaves u at value h
-  write_leaves u at Half value h = half_leaves u at value h
-  write_leaves u at Word value h = word_leaves u at value h
+  write_leaves u at width value h =
+      or_leaves u width (whole_in width (slot_of proc at)) value (ascending proc now u at value (width_bytes width))
+      (whole_is Q width (slot_of proc at) (first_is Q proc at width h)) (walk_leaves (width_bytes width) u at value h)
 
 module _ (kind : Register → Bool) (proc : Proc) (now : Tick) (R : IoState → IoState → Type 0) (same : (u : IoState) → R u u)
     (each : (u : IoState) (register : Register) → kind register ≡ true → R u ((meaning_of register).after_read proc now u)) where
@@ -138,7 +139,41 @@ module _ (kind : Register → Bool) (proc : Proc) (now : Tick) (R : IoState → 
   unfolding port_read
   read_leaves u at Byte h = same u
   read_leaves u at Half h = same u
-  read_leaves u at Word h = slot_read_leaves u (whole_in Word (slot_of proc at)) (whole_is (Of kind) Word (slot_of proc at) h.0.0)
+  read_leaves u at Word h = slot_read_leaves u (whole_in Word (slot_of proc at)) (whole_is (Of kind) Word (slot_of proc at) h.0)
+
+-- ---- what holds of each register's refusal, and where there is none, holds of an access's
+
+module _ (proc : Proc) (u : IoState) (P : Option Stop → Type 0) (none : P None)
+    (each : (register : Register) (number word : ℕ) → P ((meaning_of register).refusal proc u number word)) where
+  slot_is_so : (width : Width) (slot : Slot) (value : ℕ) → P (slot_refusal proc u width slot value)
+  slot_is_so width slot value =
+      either P (ignores width slot.register) None _ none (each slot.register slot.number (slot_joined proc u width slot value))
+
+  begun_is_so : (slot : Option Slot) (value : ℕ) → P (begun_refusal proc u slot value)
+  begun_is_so None value = none
+  begun_is_so (Some slot) value =
+      let width = width_of slot.bytes in
+      either P (slot.byte == 0) (slot_refusal proc u width slot value) None (slot_is_so width slot value) none
+
+  first_is_so : (one two : Option Stop) → P one → P two → P (option_or one two)
+  first_is_so None two h k = k
+  first_is_so (Some stop) two h k = h
+
+  walk_is_so : (n at value : ℕ) → P (first_refusal proc u at value n)
+  walk_is_so zero at value = none
+  walk_is_so (suc n) at value =
+      first_is_so (begun_refusal proc u (slot_of proc at) value) (first_refusal proc u (at + 1) (value / 2 ^ 8) n)
+      (begun_is_so (slot_of proc at) value) (walk_is_so n (at + 1) (value / 2 ^ 8))
+
+  or_is_so : (width : Width) (slot : Option Slot) (value : ℕ) (other : Option Stop) → P other → P (refusal_or proc u width slot value other)
+  or_is_so width None value other h = h
+  or_is_so width (Some slot) value other h = slot_is_so width slot value
+
+  pub refusal_is_so : (at : ℕ) (width : Width) (value : ℕ) → P (port_refusal proc u at width value)
+  unfolding port_refusal
+  refusal_is_so at width value =
+      or_is_so width (whole_in width (slot_of proc at)) value (first_refusal proc u at value (width_bytes width))
+      (walk_is_so (width_bytes width) at value)
 
 -- ---- a change of the units that registers of a kind don't see, and leave as it is
 
@@ -167,31 +202,29 @@ module _ (kind : Register → Bool) (proc : Proc) (change : IoState → IoState)
     or_passes u width None value other h = refl
     or_passes u width (Some slot) value other h = slot_passes u width slot value h
 
-    byte_passes : (u : IoState) (at value : ℕ) → ByteIs kind proc at → byte_written proc now (change u) at value ≡ change (byte_written proc now u at value)
-    byte_passes u at value h = or_passes u Byte (slot_of proc at) value u h
+    begun_passes : (u : IoState) (slot : Option Slot) (value : ℕ) → OfKind kind slot
+        → begun_written proc now (change u) slot value ≡ change (begun_written proc now u slot value)
+    begun_passes u None value h = refl
+    begun_passes u (Some slot) value h =
+        let width = width_of slot.bytes in
+        ap (λ (v : IoState). if slot.byte == 0 then v else change u) (slot_passes u width slot value h)
+        ∙ chosen change (slot.byte == 0) (slot_written proc now u width slot value) u
 
-    half_passes : (u : IoState) (at value : ℕ) → HalfIs kind proc at → half_written proc now (change u) at value ≡ change (half_written proc now u at value)
-    half_passes u at value h =
-        let whole = whole_in Half (slot_of proc at) in
-        let first = byte_written proc now u at value in
-        ap (λ (v : IoState). written_or proc now (change u) Half whole value (byte_written proc now v (at + 1) (value / 2 ^ 8))) (byte_passes u at value h.0)
-        ∙ ap (λ (v : IoState). written_or proc now (change u) Half whole value v) (byte_passes first (at + 1) (value / 2 ^ 8) h.1)
-        ∙ or_passes u Half whole value (byte_written proc now first (at + 1) (value / 2 ^ 8)) (whole_is (Of kind) Half (slot_of proc at) h.0)
-
-    word_passes : (u : IoState) (at value : ℕ) → WordIs kind proc at → word_written proc now (change u) at value ≡ change (word_written proc now u at value)
-    word_passes u at value h =
-        let whole = whole_in Word (slot_of proc at) in
-        let first = half_written proc now u at value in
-        ap (λ (v : IoState). written_or proc now (change u) Word whole value (half_written proc now v (at + 2) (value / 2 ^ 16))) (half_passes u at value h.0)
-        ∙ ap (λ (v : IoState). written_or proc now (change u) Word whole value v) (half_passes first (at + 2) (value / 2 ^ 16) h.1)
-        ∙ or_passes u Word whole value (half_written proc now first (at + 2) (value / 2 ^ 16)) (whole_is (Of kind) Word (slot_of proc at) h.0.0)
+    walk_passes : (n : ℕ) (u : IoState) (at value : ℕ) → AreFrom (Of kind) proc at n
+        → ascending proc now (change u) at value n ≡ change (ascending proc now u at value n)
+    walk_passes zero u at value h = refl
+    walk_passes (suc n) u at value h =
+        ap (λ (v : IoState). ascending proc now v (at + 1) (value / 2 ^ 8) n) (begun_passes u (slot_of proc at) value h.0)
+        ∙ walk_passes n (begun_written proc now u (slot_of proc at) value) (at + 1) (value / 2 ^ 8) h.1
 
     pub write_passes : (u : IoState) (at : ℕ) (width : Width) (value : ℕ) → Covers kind proc at width
         → port_written proc now (change u) at width value ≡ change (port_written proc now u at width value)
     unfolding port_written
-    write_passes u at Byte value h = byte_passes u at value h
-    write_passes u at Half value h = half_passes u at value h
-    write_passes u at Word value h = word_passes u at value h
+    write_passes u at width value h =
+        let whole = whole_in width (slot_of proc at) in
+        ap (λ (v : IoState). written_or proc now (change u) width whole value v) (walk_passes (width_bytes width) u at value h)
+        ∙ or_passes u width whole value (ascending proc now u at value (width_bytes width))
+        (whole_is (Of kind) width (slot_of proc at) (first_is (Of kind) proc at width h))
 
   -- reads
   slot_read_passes : (now : Tick) (u : IoState) (slot : Option Slot) → OfKind kind slot → slot_read proc now (change u) slot ≡ change (slot_read proc now u slot)
@@ -203,7 +236,7 @@ module _ (kind : Register → Bool) (proc : Proc) (change : IoState → IoState)
   unfolding port_read
   read_passes now u at Byte h = refl
   read_passes now u at Half h = refl
-  read_passes now u at Word h = slot_read_passes now u (whole_in Word (slot_of proc at)) (whole_is (Of kind) Word (slot_of proc at) h.0.0)
+  read_passes now u at Word h = slot_read_passes now u (whole_in Word (slot_of proc at)) (whole_is (Of kind) Word (slot_of proc at) h.0)
 
   -- refusals
   slot_refuses : (u : IoState) (width : Width) (slot : Slot) (value : ℕ) → kind slot.register ≡ true → slot_refusal proc (change u) width slot value ≡ slot_refusal proc u width slot value
@@ -217,28 +250,23 @@ module _ (kind : Register → Bool) (proc : Proc) (change : IoState → IoState)
   or_refuses u width None value other h = refl
   or_refuses u width (Some slot) value other h = slot_refuses u width slot value h
 
-  byte_refuses : (u : IoState) (at value : ℕ) → ByteIs kind proc at → byte_refusal proc (change u) at value ≡ byte_refusal proc u at value
-  byte_refuses u at value h = or_refuses u Byte (slot_of proc at) value None h
+  begun_refuses : (u : IoState) (slot : Option Slot) (value : ℕ) → OfKind kind slot → begun_refusal proc (change u) slot value ≡ begun_refusal proc u slot value
+  begun_refuses u None value h = refl
+  begun_refuses u (Some slot) value h = ap (λ (stop : Option Stop). if slot.byte == 0 then stop else None) (slot_refuses u (width_of slot.bytes) slot value h)
 
-  half_refuses : (u : IoState) (at value : ℕ) → HalfIs kind proc at → half_refusal proc (change u) at value ≡ half_refusal proc u at value
-  half_refuses u at value h =
-      let whole = whole_in Half (slot_of proc at) in
-      ap (λ (stop : Option Stop). refusal_or proc (change u) Half whole value (option_or stop (byte_refusal proc (change u) (at + 1) (value / 2 ^ 8)))) (byte_refuses u at value h.0)
-      ∙ ap (λ (stop : Option Stop). refusal_or proc (change u) Half whole value (option_or (byte_refusal proc u at value) stop)) (byte_refuses u (at + 1) (value / 2 ^ 8) h.1)
-      ∙ or_refuses u Half whole value (option_or (byte_refusal proc u at value) (byte_refusal proc u (at + 1) (value / 2 ^ 8))) (whole_is (Of kind) Half (slot_of proc at) h.0)
-
-  word_refuses : (u : IoState) (at value : ℕ) → WordIs kind proc at → word_refusal proc (change u) at value ≡ word_refusal proc u at value
-  word_refuses u at value h =
-      let whole = whole_in Word (slot_of proc at) in
-      ap (λ (stop : Option Stop). refusal_or proc (change u) Word whole value (option_or stop (half_refusal proc (change u) (at + 2) (value / 2 ^ 16)))) (half_refuses u at value h.0)
-      ∙ ap (λ (stop : Option Stop). refusal_or proc (change u) Word whole value (option_or (half_refusal proc u at value) stop)) (half_refuses u (at + 2) (value / 2 ^ 16) h.1)
-      ∙ or_refuses u Word whole value (option_or (half_refusal proc u at value) (half_refusal proc u (at + 2) (value / 2 ^ 16))) (whole_is (Of kind) Word (slot_of proc at) h.0.0)
+  walk_refuses : (n : ℕ) (u : IoState) (at value : ℕ) → AreFrom (Of kind) proc at n → first_refusal proc (change u) at value n ≡ first_refusal proc u at value n
+  walk_refuses zero u at value h = refl
+  walk_refuses (suc n) u at value h =
+      ap (λ (stop : Option Stop). option_or stop (first_refusal proc (change u) (at + 1) (value / 2 ^ 8) n)) (begun_refuses u (slot_of proc at) value h.0)
+      ∙ ap (option_or (begun_refusal proc u (slot_of proc at) value)) (walk_refuses n u (at + 1) (value / 2 ^ 8) h.1)
 
   pub refusal_passes : (u : IoState) (at : ℕ) (width : Width) (value : ℕ) → Covers kind proc at width → port_refusal proc (change u) at width value ≡ port_refusal proc u at width value
   unfolding port_refusal
-  refusal_passes u at Byte value h = byte_refuses u at value h
-  refusal_passes u at Half value h = half_refuses u at value h
-  refusal_passes u at Word value h = word_refuses u at value h
+  refusal_passes u at width value h =
+      let whole = whole_in width (slot_of proc at) in
+      ap (λ (stop : Option Stop). refusal_or proc (change u) width whole value stop) (walk_refuses (width_bytes width) u at value h)
+      ∙ or_refuses u width whole value (first_refusal proc u at value (width_bytes width))
+      (whole_is (Of kind) width (slot_of proc at) (first_is (Of kind) proc at width h))
 
 -- ---- two states in which registers of a kind read the same
 
@@ -253,25 +281,19 @@ module _ (kind : Register → Bool) (proc : Proc) (now : Tick) (u v : IoState) (
   or_same width None other h = refl
   or_same width (Some slot) other h = slot_same width slot h
 
-  byte_same : (at : ℕ) → ByteIs kind proc at → port_byte proc now v at ≡ port_byte proc now u at
-  byte_same at h = or_same Byte (slot_of proc at) 0 h
+  begun_same : (slot : Option Slot) → OfKind kind slot → begun_value proc now v slot ≡ begun_value proc now u slot
+  begun_same None h = refl
+  begun_same (Some slot) h = ap (λ (n : ℕ). if slot.byte == 0 then n else 0) (slot_same (width_of slot.bytes) slot h)
 
-  half_same : (at : ℕ) → HalfIs kind proc at → port_half proc now v at ≡ port_half proc now u at
-  half_same at h =
-      let whole = whole_in Half (slot_of proc at) in
-      ap (λ (n : ℕ). read_or proc now v Half whole (n + 2 ^ 8 * port_byte proc now v (at + 1))) (byte_same at h.0)
-      ∙ ap (λ (n : ℕ). read_or proc now v Half whole (port_byte proc now u at + 2 ^ 8 * n)) (byte_same (at + 1) h.1)
-      ∙ or_same Half whole (port_byte proc now u at + 2 ^ 8 * port_byte proc now u (at + 1)) (whole_is (Of kind) Half (slot_of proc at) h.0)
-
-  word_same : (at : ℕ) → WordIs kind proc at → port_word proc now v at ≡ port_word proc now u at
-  word_same at h =
-      let whole = whole_in Word (slot_of proc at) in
-      ap (λ (n : ℕ). read_or proc now v Word whole (n + 2 ^ 16 * port_half proc now v (at + 2))) (half_same at h.0)
-      ∙ ap (λ (n : ℕ). read_or proc now v Word whole (port_half proc now u at + 2 ^ 16 * n)) (half_same (at + 2) h.1)
-      ∙ or_same Word whole (port_half proc now u at + 2 ^ 16 * port_half proc now u (at + 2)) (whole_is (Of kind) Word (slot_of proc at) h.0.0)
+  walk_same : (n at : ℕ) → AreFrom (Of kind) proc at n → values_from proc now v at n ≡ values_from proc now u at n
+  walk_same zero at h = refl
+  walk_same (suc n) at h =
+      ap (λ (x : ℕ). x + 2 ^ 8 * values_from proc now v (at + 1) n) (begun_same (slot_of proc at) h.0)
+      ∙ ap (λ (x : ℕ). begun_value proc now u (slot_of proc at) + 2 ^ 8 * x) (walk_same n (at + 1) h.1)
 
   pub value_same : (at : ℕ) (width : Width) → Covers kind proc at width → port_value proc now v at width ≡ port_value proc now u at width
   unfolding port_value
-  value_same at Byte h = byte_same at h
-  value_same at Half h = half_same at h
-  value_same at Word h = word_same at h
+  value_same at width h =
+      let whole = whole_in width (slot_of proc at) in
+      ap (λ (x : ℕ). read_or proc now v width whole x) (walk_same (width_bytes width) at h)
+      ∙ or_same width whole (values_from proc now u at (width_bytes width)) (whole_is (Of kind) width (slot_of proc at) (first_is (Of kind) proc at width h))

@@ -1,14 +1,16 @@
 use Rattle.ds_ports.proofs.Words.{AreWaiting, Bool, Byte, GxCommand, GxPort, GxState, GxWord, Half, IfSome, IoState, Nine, None, Option, PortRow}
 use Rattle.ds_ports.proofs.Words.{Proc, Register, Seven, Slot, Some, Stop, Tick, Width, Word, after_write, ap, arith, byte_written, either, false}
-use Rattle.ds_ports.proofs.Words.{gx_port, gx_set, half_written, if◌then◌else◌, ignores, is_whole_word, nat_lt, not, port_refusal, port_written, refl}
-use Rattle.ds_ports.proofs.Words.{register_map, slot_joined, slot_of, slot_written, subst, sym, true, true≢false, unless_stopped, waiting_entries}
-use Rattle.ds_ports.proofs.Words.{whole_if, whole_in, word_written, write_port, written_or, ℕ, ◌&&◌, ◌+◌, ◌-◌, ◌/◌, ◌^◌, ◌∙◌, ◌≡◌, ◌≤◌}
+use Rattle.ds_ports.proofs.Words.{gx_port, gx_set, half_written, halved_written, if◌then◌else◌, ignores, is_whole_word, most_entries, nat_lt, not}
+use Rattle.ds_ports.proofs.Words.{port_refusal, port_written, refl, register_map, slot_joined, slot_of, slot_written, subst, sym, true, true≢false}
+use Rattle.ds_ports.proofs.Words.{unless_stopped, waiting_entries, whole_if, whole_in, width_bytes, word_written, write_port, written_or, ℕ, ◌%◌}
+use Rattle.ds_ports.proofs.Words.{◌&&◌, ◌+◌, ◌-◌, ◌/◌, ◌^◌, ◌∙◌, ◌≡◌, ◌≤◌}
 use Rattle.gx_fifo.specs.declared.ports.GxPort.TheVariants.{Display, Fifo, Direct, Status, Lengths, Position, Vector, Clip, VectorMatrix, Unlisted}
 use Rattle.ds_ports.specs.Guards.{guarded_written, is_overfull}
 use Rattle.gx_fifo.proofs.Laws.{written_grows}
 use Rattle.ds_ports.specs.Touches as touches
 use Rattle.ds_ports.proofs.Passed.{keeps_part, row_leaves}
 use Rattle.ds_ports.proofs.RegisterMaps.{each_place, of_place, slot_by_all}
+use Rattle.ds_ports.proofs.Halving.{goes_by_halves}
 
 -- An access adds four entries at most to those that wait for geometry: one of a whole word of a command's port alone adds any.
 
@@ -123,7 +125,7 @@ half_as_many proc now u at value =
 -- ---- so they leave room where there is some
 
 stays_overfull : (proc : Proc) (u v : IoState) → AreAsMany u v → is_overfull proc v ≡ is_overfull proc u
-stays_overfull Nine u v h = ap (nat_lt 320) h
+stays_overfull Nine u v h = ap (nat_lt (most_entries - 4)) h
 stays_overfull Seven u v h = refl
 
 pub byte_leaves_room : (proc : Proc) (now : Tick) (u : IoState) (at value : ℕ) → is_overfull proc (byte_written proc now u at value) ≡ is_overfull proc u
@@ -171,22 +173,26 @@ word_grows proc now u at value waiting =
     or_grows proc now u (whole_in Word (slot_of proc at)) value second waiting
     (no_more u second (half_as_many proc now first (at + 2) (value / 2 ^ 16) ∙ half_as_many proc now u at value))
 
-pub write_grows : (proc : Proc) (now : Tick) (u : IoState) (at : ℕ) (width : Width) (value : ℕ) → AreWaiting u.gx
+halved_grows : (proc : Proc) (now : Tick) (u : IoState) (at : ℕ) (width : Width) (value : ℕ) → AreWaiting u.gx
+    → AreFourMore u (halved_written proc now u at width value)
+halved_grows proc now u at Byte value waiting = no_more u (byte_written proc now u at value) (byte_as_many proc now u at value)
+halved_grows proc now u at Half value waiting = no_more u (half_written proc now u at value) (half_as_many proc now u at value)
+halved_grows proc now u at Word value waiting = word_grows proc now u at value waiting
+
+pub write_grows : (proc : Proc) (now : Tick) (u : IoState) (at : ℕ) (width : Width) (value : ℕ) → at % width_bytes width ≡ 0 → AreWaiting u.gx
     → waiting_entries (port_written proc now u at width value).gx ≤ waiting_entries u.gx + 4
-unfolding port_written
-write_grows proc now u at Byte value waiting = no_more u (byte_written proc now u at value) (byte_as_many proc now u at value)
-write_grows proc now u at Half value waiting = no_more u (half_written proc now u at value) (half_as_many proc now u at value)
-write_grows proc now u at Word value waiting = word_grows proc now u at value waiting
+write_grows proc now u at width value even waiting =
+    subst (AreFourMore u) (sym (goes_by_halves proc now u at width value even).writes) (halved_grows proc now u at width value waiting)
 
 unless_grows : (stop : Option Stop) (u v : IoState) → AreFourMore u v → AreFourMore u (unless_stopped stop u v)
 unless_grows None u v h = h
 unless_grows (Some stop) u v h = omega arith
 
-pub put_grows : (proc : Proc) (now : Tick) (old new : IoState) (at : ℕ) (width : Width) (value : ℕ) → new ≡ guarded_written proc now old at width value
-    → AreWaiting old.gx → waiting_entries new.gx ≤ waiting_entries old.gx + 4
-put_grows proc now old new at width value is_new waiting =
+pub put_grows : (proc : Proc) (now : Tick) (old new : IoState) (at : ℕ) (width : Width) (value : ℕ) → at % width_bytes width ≡ 0
+    → new ≡ guarded_written proc now old at width value → AreWaiting old.gx → waiting_entries new.gx ≤ waiting_entries old.gx + 4
+put_grows proc now old new at width value even is_new waiting =
     subst (AreFourMore old) (sym is_new)
     (either (AreFourMore old) (is_overfull proc old) old
     (unless_stopped (port_refusal proc old at width value) old (port_written proc now old at width value)) (no_more old old refl)
     (unless_grows (port_refusal proc old at width value) old (port_written proc now old at width value)
-    (write_grows proc now old at width value waiting)))
+    (write_grows proc now old at width value even waiting)))

@@ -1,6 +1,7 @@
 mod Words
 pub mod RegisterMaps
 pub mod DisplayRows
+pub mod GxRows
 pub mod DisplayPorts
 pub mod HeldDues
 pub mod GxPorts
@@ -16,7 +17,7 @@ pub mod Settled
 pub mod Spans
 pub mod Together
 pub mod Told
-pub mod Ascending
+pub mod Halving
 pub mod Wholes
 pub mod Often
 pub mod Covered

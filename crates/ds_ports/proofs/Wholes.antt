@@ -1,26 +1,15 @@
-use Rattle.ds_ports.proofs.Words.{Bool, Byte, GxCommand, GxPort, GxState, Half, IoState, IsGx, None, Option, Proc, Slot, Some, Tick, Width, Word}
-use Rattle.ds_ports.proofs.Words.{after_write, ap, arith, false, gx_kept, gx_port, is_whole_word, kept_port, meaning_of, nat_le, not, port_read}
-use Rattle.ds_ports.proofs.Words.{port_refusal, port_value, port_written, refl, slot_of, slot_refusal, slot_value, slot_written, subst, true}
-use Rattle.ds_ports.proofs.Words.{unless_stopped, whole_if, whole_in, width_bytes, with_bytes_from, ℕ, ◌+◌, ◌<◌, ◌^◌, ◌≡◌, ◌≤◌}
+use Rattle.ds_ports.proofs.Words.{Byte, GxCommand, GxPort, GxState, Half, IoState, IsGx, None, Proc, Slot, Some, Tick, Width, Word, after_write, ap}
+use Rattle.ds_ports.proofs.Words.{arith, gx_kept, gx_port, is_whole_word, kept_port, meaning_of, not, port_read, port_refusal, port_value}
+use Rattle.ds_ports.proofs.Words.{port_written, refl, slot_of, slot_refusal, slot_value, slot_written, subst, true, unless_stopped, whole_in}
+use Rattle.ds_ports.proofs.Words.{width_bytes, with_bytes_from, ℕ, ◌+◌, ◌<◌, ◌^◌, ◌≡◌, ◌≤◌}
 use Rattle.gx_fifo.specs.declared.ports.GxPort.TheVariants.{Display, Status}
 
 -- An access that lies in one register, whatever its width.
 
-only_some : (b : Bool) (slot found : Slot) → whole_if b slot ≡ Some found → Some slot ≡ Some found
-only_some true slot found h = h
-only_some false slot found h = absurd (grind (arith, h))
-
--- a register in which an access lies is the one at its offset
-there : (width : Width) (slot : Option Slot) (found : Slot) → whole_in width slot ≡ Some found → slot ≡ Some found
-there width None found h = absurd (grind (arith, h))
-there width (Some slot) found h = only_some (nat_le (slot.byte + width_bytes width) slot.bytes) slot found h
-
 pub value_whole : (proc : Proc) (now : Tick) (u : IoState) (at : ℕ) (width : Width) (slot : Slot) → whole_in width (slot_of proc at) ≡ Some slot
     → port_value proc now u at width ≡ slot_value proc now u width slot
 unfolding port_value
-value_whole proc now u at Byte slot h = rw (there Byte (slot_of proc at) slot h) refl
-value_whole proc now u at Half slot h = rw h refl
-value_whole proc now u at Word slot h = rw h refl
+value_whole proc now u at width slot h = rw h refl
 
 pub read_whole : (proc : Proc) (now : Tick) (u : IoState) (at : ℕ) (slot : Slot) → whole_in Word (slot_of proc at) ≡ Some slot
     → port_read proc now u at Word ≡ (meaning_of slot.register).after_read proc now u
@@ -43,16 +32,12 @@ read_apart proc now u at Word h = rw h refl
 pub refusal_whole : (proc : Proc) (u : IoState) (at : ℕ) (width : Width) (value : ℕ) (slot : Slot) → whole_in width (slot_of proc at) ≡ Some slot
     → port_refusal proc u at width value ≡ slot_refusal proc u width slot value
 unfolding port_refusal
-refusal_whole proc u at Byte value slot h = rw (there Byte (slot_of proc at) slot h) refl
-refusal_whole proc u at Half value slot h = rw h refl
-refusal_whole proc u at Word value slot h = rw h refl
+refusal_whole proc u at width value slot h = rw h refl
 
 pub written_whole : (proc : Proc) (now : Tick) (u : IoState) (at : ℕ) (width : Width) (value : ℕ) (slot : Slot) → whole_in width (slot_of proc at) ≡ Some slot
     → port_written proc now u at width value ≡ slot_written proc now u width slot value
 unfolding port_written
-written_whole proc now u at Byte value slot h = rw (there Byte (slot_of proc at) slot h) refl
-written_whole proc now u at Half value slot h = rw h refl
-written_whole proc now u at Word value slot h = rw h refl
+written_whole proc now u at width value slot h = rw h refl
 
 -- ---- a whole word of GXFIFO or of a command's port, which refuses none
 

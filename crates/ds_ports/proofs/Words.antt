@@ -76,10 +76,11 @@ pub use Rattle.ds_ports.specs.Io.{is_settled, keys_pressed, level_told, raised_t
 pub use Rattle.ds_ports.specs.Io.{stall_ends, starter_told, tick_after, timer_overflows, told_of_card, video_done, with_gx, with_halted, with_io_of}
 pub use Rattle.ds_ports.specs.Parts.{Part, looked_up, parts_of, slot_from, whole}
 unfoldable pub use Rattle.ds_ports.specs.Parts.{slot_among}
-pub use Rattle.ds_ports.specs.Ports.{GoesAscending, ascending, begun_refusal, begun_value, begun_written, byte_refusal, byte_written, first_refusal}
-pub use Rattle.ds_ports.specs.Ports.{half_refusal, half_written, ignores, part, port_byte, port_half, port_word, read_or, refusal_or, slot_joined}
-pub use Rattle.ds_ports.specs.Ports.{slot_read, slot_refusal, slot_value, slot_written, unless_stopped, values_from, whole_if, whole_in}
-pub use Rattle.ds_ports.specs.Ports.{with_bytes_from, word_refusal, word_written, written_or}
+pub use Rattle.ds_ports.specs.PortLaws.{GoesByHalves, byte_refusal, byte_written, half_refusal, half_written, halved_refusal, halved_value}
+pub use Rattle.ds_ports.specs.PortLaws.{halved_written, port_byte, port_half, port_word, word_refusal, word_written}
+pub use Rattle.ds_ports.specs.Ports.{ascending, begun_refusal, begun_value, begun_written, first_refusal, ignores, part, read_or, refusal_or}
+pub use Rattle.ds_ports.specs.Ports.{slot_joined, slot_read, slot_refusal, slot_value, slot_written, unless_stopped, values_from, whole_if}
+pub use Rattle.ds_ports.specs.Ports.{whole_in, width_of, with_bytes_from, written_or}
 unfoldable pub use Rattle.ds_ports.specs.Ports.{port_read, port_refusal, port_value, port_written}
 pub use Rattle.ds_ports.specs.ProcessorIo.{ProcessorIoState, blocks_processor, dma_written, haltcnt_written, if_written, kept_keycnt, keycnt_written}
 pub use Rattle.ds_ports.specs.ProcessorIo.{keyinput_word, keys_hold, keys_told, processor_io_moved, processor_io_raised, processor_io_triggered}

@@ -1,4 +1,4 @@
-use Rattle.std.specs.Prelude.{ℕ, max, Bool, true, false, List, [], ◌∷◌, if◌then◌else◌, Option, Some, None, option_map}
+use Rattle.std.specs.Prelude.{ℕ, max, Bool, List, [], ◌∷◌, if◌then◌else◌, Option, Some, None, option_map}
 use Rattle.ds_base.specs.declared.processors.Proc.{Proc}
 use Rattle.ds_base.specs.declared.processors.Proc.TheVariants.{Nine, Seven}
 use Rattle.ds_base.specs.declared.ticks.Due.{Due}
@@ -6,7 +6,7 @@ use Rattle.ds_base.specs.declared.ticks.Tick.{Tick}
 use Rattle.ds_card.specs.Cards.{card_due}
 use Rattle.ds_dma.specs.States.{channel_due}
 use Rattle.ds_runs.specs.declared.actors.Actor as actor
-use Rattle.ds_runs.specs.declared.actors.Actor.TheVariants.{KeyScript, Video, Timer, Divider, SquareRoot, Geometry, Card, Dma, Processor}
+use Rattle.ds_runs.specs.declared.actors.Actor.TheVariants.{Video, Timer, Divider, SquareRoot, Geometry, Card, Dma}
 use Rattle.ds_runs.specs.OrderLaws.{first_from}
 use Rattle.ds_timers.specs.Timing.{timer_at, timer_due}
 use Rattle.ds_ports.specs.Io.{IoState, io_of}

@@ -9,17 +9,17 @@ use Rattle.ds_dma.specs.declared.controls.Cause.TheVariants.{VBlank, HBlank}
 use Rattle.ds_dma.specs.declared.controls.Cause.TheVariants as causes
 use Rattle.ds_dma.specs.States.{awaits_geometry, dma_due, dma_triggered}
 use Rattle.ds_dma.specs.declared.dma.DmaDue.{DmaDue}
-use Rattle.ds_ipc.specs.Ipcs.{IpcState, ipc_at_boot}
-use Rattle.ds_math.specs.Dividers.{DividerState, divider_at_boot, division_finished}
-use Rattle.ds_math.specs.Roots.{RootState, root_at_boot, root_finished}
+use Rattle.ds_ipc.specs.Ipcs.{ipc_at_boot}
+use Rattle.ds_math.specs.Dividers.{divider_at_boot, division_finished}
+use Rattle.ds_math.specs.Roots.{root_at_boot, root_finished}
 use Rattle.ds_runs.specs.declared.actors.Actor as actor
-use Rattle.ds_runs.specs.declared.actors.Actor.TheVariants.{KeyScript, Video, Timer, Divider, SquareRoot, Geometry, Card, Dma, Processor}
+use Rattle.ds_runs.specs.declared.actors.Actor.TheVariants.{Timer, Divider, SquareRoot, Geometry, Card}
 use Rattle.ds_timers.specs.Irqs.{irq_levelled}
 use Rattle.ds_timers.specs.Timing.{overflow_of}
 use Rattle.ds_ports.specs.ProcessorIo.{BeforeMove, blocks_processor, ProcessorIoState, processor_io_at_boot, processor_io_moved, processor_io_put_back, processor_io_raised, processor_io_triggered, keys_told}
 use Rattle.gx_fifo.specs.GxStates.{GxState, gx_at_boot, gx_finished, gx_level, gx_swapped, is_half_empty, is_stalled}
 use Rattle.video2d.specs.Scans.{scan_due_tick}
-use Rattle.video2d.specs.Videos.{VideoState, unless_stop, video_after_event, video_at_boot, video_shown, video_stop}
+use Rattle.video2d.specs.Videos.{unless_stop, video_after_event, video_at_boot, video_shown, video_stop}
 use Rattle.video2d.specs.declared.videos.Shown.{Shown}
 use Rattle.vram_banks.specs.Cells.{Banks, blank_banks}
 -- What stands behind the ports.

@@ -4,6 +4,7 @@ pub mod Inside
 pub mod ProcessorIo
 pub mod Parts
 pub mod Ports
+pub mod PortLaws
 pub mod Guards
 pub mod RegisterMap
 pub mod Registers

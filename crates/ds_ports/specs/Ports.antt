@@ -1,4 +1,4 @@
-use Rattle.std.specs.Prelude.{ℕ, zero, suc, ◌≡◌, ◌+◌, ◌*◌, ◌/◌, ◌%◌, ◌^◌, ◌==◌, nat_le, ◌&&◌, not, if◌then◌else◌, Bool, true, false, Option, Some, None, is_some, option_and_then, option_map, unwrap_or}
+use Rattle.std.specs.Prelude.{ℕ, zero, suc, ◌+◌, ◌*◌, ◌/◌, ◌%◌, ◌^◌, ◌==◌, nat_le, ◌&&◌, not, if◌then◌else◌, Bool, Option, Some, None, is_some, option_and_then, option_map, unwrap_or}
 use Rattle.ds_base.specs.Numbers.{width_bytes}
 use Rattle.ds_base.specs.declared.memories.Width.{Width}
 use Rattle.ds_base.specs.declared.memories.Width.TheVariants.{Byte, Half, Word}
@@ -13,13 +13,17 @@ use Rattle.ds_ports.specs.declared.registers.Register.{Register}
 use Rattle.ds_ports.specs.declared.registers.Slot.{Slot}
 use Rattle.std.specs.Option.{option_or}
 
--- What an access of a port reads and leaves. An access that lies in one register is an access of some or all of its bytes. Any other goes
--- through the registers that it covers in ascending address: it is one of the lower half, and then one of the upper half. Offsets are
--- aligned down to the access's width. (Our choice, where GBATEK is open.)
+-- What an access of a port reads and leaves, at an offset that is a multiple of its width. One that lies in one register is an access of some
+-- or all of its bytes. Any other goes through the registers that begin in it, each whole, in ascending address. (Our choice, where GBATEK is
+-- open.)
 
 -- so many bits of a number from a byte of it on
 abbrev pub part : Width → ℕ → ℕ → ℕ
 part width byte number = number / 2 ^ (8 * byte) % 2 ^ (8 * width_bytes width)
+
+-- the width of a whole register
+abbrev pub width_of : ℕ → Width
+width_of bytes = if bytes == 1 then Byte else (if bytes == 2 then Half else Word)
 
 -- a kept number, with some of its bytes from one on written
 abbrev pub with_bytes_from : Width → ℕ → ℕ → ℕ → ℕ
@@ -48,29 +52,26 @@ slot_value proc now u width slot =
 abbrev pub read_or : Proc → Tick → IoState → Width → Option Slot → ℕ → ℕ
 read_or proc now u width slot other = unwrap_or (option_map (slot_value proc now u width) slot) other
 
-abbrev pub port_byte : Proc → Tick → IoState → ℕ → ℕ
-port_byte proc now u at = read_or proc now u Byte (slot_of proc at) 0
+-- what a register reads whole of which the first byte stands at a place; where none does, 0
+abbrev pub begun_value : Proc → Tick → IoState → Option Slot → ℕ
+begun_value proc now u None = 0
+begun_value proc now u (Some slot) = if slot.byte == 0 then slot_value proc now u (width_of slot.bytes) slot else 0
 
-abbrev pub port_half : Proc → Tick → IoState → ℕ → ℕ
-port_half proc now u at = read_or proc now u Half (whole_in Half (slot_of proc at)) (port_byte proc now u at + 2 ^ 8 * port_byte proc now u (at + 1))
-
-abbrev pub port_word : Proc → Tick → IoState → ℕ → ℕ
-port_word proc now u at = read_or proc now u Word (whole_in Word (slot_of proc at)) (port_half proc now u at + 2 ^ 16 * port_half proc now u (at + 2))
+-- those that begin in so many bytes from an offset on
+abbrev pub values_from : Proc → Tick → IoState → ℕ → ℕ → ℕ
+values_from proc now u at zero = 0
+values_from proc now u at (suc n) = begun_value proc now u (slot_of proc at) + 2 ^ 8 * values_from proc now u (at + 1) n
 
 -- what an access reads at a tick
 unfoldable pub port_value : Proc → Tick → IoState → ℕ → Width → ℕ
-port_value proc now u at Byte = port_byte proc now u at
-port_value proc now u at Half = port_half proc now u at
-port_value proc now u at Word = port_word proc now u at
+port_value proc now u at width = read_or proc now u width (whole_in width (slot_of proc at)) (values_from proc now u at (width_bytes width))
 
 -- what a read leaves: a register that a read changes is one that takes whole words
 abbrev pub slot_read : Proc → Tick → IoState → Option Slot → IoState
 slot_read proc now u slot = unwrap_or (option_map (λ (s : Slot). (meaning_of s.register).after_read proc now u) slot) u
 
 unfoldable pub port_read : Proc → Tick → IoState → ℕ → Width → IoState
-port_read proc now u at Byte = u
-port_read proc now u at Half = u
-port_read proc now u at Word = slot_read proc now u (whole_in Word (slot_of proc at))
+port_read proc now u at width = if is_whole_word width then slot_read proc now u (whole_in Word (slot_of proc at)) else u
 
 -- ---- writes
 
@@ -86,24 +87,19 @@ slot_written proc now u width slot value =
 abbrev pub written_or : Proc → Tick → IoState → Width → Option Slot → ℕ → IoState → IoState
 written_or proc now u width slot value other = unwrap_or (option_map (λ (s : Slot). slot_written proc now u width s value) slot) other
 
-abbrev pub byte_written : Proc → Tick → IoState → ℕ → ℕ → IoState
-byte_written proc now u at value = written_or proc now u Byte (slot_of proc at) value u
+-- what a write of a whole register leaves, where one begins
+abbrev pub begun_written : Proc → Tick → IoState → Option Slot → ℕ → IoState
+begun_written proc now u None value = u
+begun_written proc now u (Some slot) value = if slot.byte == 0 then slot_written proc now u (width_of slot.bytes) slot value else u
 
-abbrev pub half_written : Proc → Tick → IoState → ℕ → ℕ → IoState
-half_written proc now u at value =
-    written_or proc now u Half (whole_in Half (slot_of proc at)) value
-    (byte_written proc now (byte_written proc now u at value) (at + 1) (value / 2 ^ 8))
-
-abbrev pub word_written : Proc → Tick → IoState → ℕ → ℕ → IoState
-word_written proc now u at value =
-    written_or proc now u Word (whole_in Word (slot_of proc at)) value
-    (half_written proc now (half_written proc now u at value) (at + 2) (value / 2 ^ 16))
+abbrev pub ascending : Proc → Tick → IoState → ℕ → ℕ → ℕ → IoState
+ascending proc now u at value zero = u
+ascending proc now u at value (suc n) = ascending proc now (begun_written proc now u (slot_of proc at) value) (at + 1) (value / 2 ^ 8) n
 
 -- what a write leaves that isn't refused
 unfoldable pub port_written : Proc → Tick → IoState → ℕ → Width → ℕ → IoState
-port_written proc now u at Byte value = byte_written proc now u at value
-port_written proc now u at Half value = half_written proc now u at value
-port_written proc now u at Word value = word_written proc now u at value
+port_written proc now u at width value =
+    written_or proc now u width (whole_in width (slot_of proc at)) value (ascending proc now u at value (width_bytes width))
 
 -- ---- refusals: a write is refused whole where it would write a register that refuses it, and then none of its registers is written
 
@@ -114,62 +110,19 @@ slot_refusal proc u width slot value =
 abbrev pub refusal_or : Proc → IoState → Width → Option Slot → ℕ → Option Stop → Option Stop
 refusal_or proc u width slot value other = unwrap_or (option_map (λ (s : Slot). slot_refusal proc u width s value) slot) other
 
-abbrev pub byte_refusal : Proc → IoState → ℕ → ℕ → Option Stop
-byte_refusal proc u at value = refusal_or proc u Byte (slot_of proc at) value None
-
-abbrev pub half_refusal : Proc → IoState → ℕ → ℕ → Option Stop
-half_refusal proc u at value =
-    refusal_or proc u Half (whole_in Half (slot_of proc at)) value
-    (option_or (byte_refusal proc u at value) (byte_refusal proc u (at + 1) (value / 2 ^ 8)))
-
-abbrev pub word_refusal : Proc → IoState → ℕ → ℕ → Option Stop
-word_refusal proc u at value =
-    refusal_or proc u Word (whole_in Word (slot_of proc at)) value
-    (option_or (half_refusal proc u at value) (half_refusal proc u (at + 2) (value / 2 ^ 16)))
-
-unfoldable pub port_refusal : Proc → IoState → ℕ → Width → ℕ → Option Stop
-port_refusal proc u at Byte value = byte_refusal proc u at value
-port_refusal proc u at Half value = half_refusal proc u at value
-port_refusal proc u at Word value = word_refusal proc u at value
-
--- what a write leaves: where it is refused, all stays
-abbrev pub unless_stopped : Option Stop → IoState → IoState → IoState
-unless_stopped stop old new = if is_some stop then old else new
-
--- ---- laws of these: an access at a multiple of its width that lies in no one register is one of each register that begins in it, whole, in
--- ascending address
-
-abbrev pub width_of : ℕ → Width
-width_of bytes = if bytes == 1 then Byte else (if bytes == 2 then Half else Word)
-
--- where no register begins, nothing is read, written or refused
-abbrev pub begun_value : Proc → Tick → IoState → Option Slot → ℕ
-begun_value proc now u None = 0
-begun_value proc now u (Some slot) = if slot.byte == 0 then slot_value proc now u (width_of slot.bytes) slot else 0
-
-abbrev pub begun_written : Proc → Tick → IoState → Option Slot → ℕ → IoState
-begun_written proc now u None value = u
-begun_written proc now u (Some slot) value = if slot.byte == 0 then slot_written proc now u (width_of slot.bytes) slot value else u
-
 abbrev pub begun_refusal : Proc → IoState → Option Slot → ℕ → Option Stop
 begun_refusal proc u None value = None
 begun_refusal proc u (Some slot) value = if slot.byte == 0 then slot_refusal proc u (width_of slot.bytes) slot value else None
-
--- of so many bytes from an offset on
-abbrev pub values_from : Proc → Tick → IoState → ℕ → ℕ → ℕ
-values_from proc now u at zero = 0
-values_from proc now u at (suc n) = begun_value proc now u (slot_of proc at) + 2 ^ 8 * values_from proc now u (at + 1) n
-
-abbrev pub ascending : Proc → Tick → IoState → ℕ → ℕ → ℕ → IoState
-ascending proc now u at value zero = u
-ascending proc now u at value (suc n) = ascending proc now (begun_written proc now u (slot_of proc at) value) (at + 1) (value / 2 ^ 8) n
 
 abbrev pub first_refusal : Proc → IoState → ℕ → ℕ → ℕ → Option Stop
 first_refusal proc u at value zero = None
 first_refusal proc u at value (suc n) = option_or (begun_refusal proc u (slot_of proc at) value) (first_refusal proc u (at + 1) (value / 2 ^ 8) n)
 
-pub record GoesAscending (proc : Proc) (now : Tick) (u : IoState) (at : ℕ) (width : Width) (value : ℕ) : Type 0 where
-  pub reads : port_value proc now u at width ≡ values_from proc now u at (width_bytes width)
-  pub after_read : port_read proc now u at width ≡ u
-  pub writes : port_written proc now u at width value ≡ ascending proc now u at value (width_bytes width)
-  pub refuses : port_refusal proc u at width value ≡ first_refusal proc u at value (width_bytes width)
+-- for the first of its registers that refuses what it is given
+unfoldable pub port_refusal : Proc → IoState → ℕ → Width → ℕ → Option Stop
+port_refusal proc u at width value =
+    refusal_or proc u width (whole_in width (slot_of proc at)) value (first_refusal proc u at value (width_bytes width))
+
+-- what a write leaves: where it is refused, all stays
+abbrev pub unless_stopped : Option Stop → IoState → IoState → IoState
+unless_stopped stop old new = if is_some stop then old else new

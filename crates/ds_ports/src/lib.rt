@@ -5,17 +5,18 @@
 //! (specs/Registers.antt), and how an access goes through the registers that it covers is another (specs/Ports.antt).
 //!
 //! Proved: `slot_of` is the register whose byte stands at an offset, by the list of the processor (`register_map`), or none. `Io::value`,
-//! `read`, `take` and `put`: what an access of any width reads and leaves at a tick, register by register in ascending order, each by its
-//! own definition; a narrower write keeps what it doesn't cover, and all else stays. A write leaves each due tick as it was, or later than
-//! its tick (clause `schedule`), where no timer of the processor is due by then and no channel of it that runs is ready by then; it leaves
-//! of geometry what no access changes (`LeavesGeometry`), and adds four entries at most to those that wait for it (`grows`). Where there is
-//! no room for them, one of ARM9's is ignored (`guarded_written`). Clause `refusal`: the stop for which a write is refused, which leaves
-//! all, exactly where it would write HALTCNT's modes 1 or 3, enable a DMA channel with a start that is left out, or start a transfer of the
-//! card by a command that is left out. A read may take a word of the card, at its tick: `after_read` is what it leaves.
+//! `read`, `take` and `put`: what an access of any width, aligned down to it, reads and leaves at a tick, by the definition of each register; a
+//! narrower write keeps what it doesn't cover, and all else stays. A write leaves each due tick as it was, or later than its tick (clause
+//! `schedule`), where no timer of the processor is due by then and no channel of it that runs is ready by then; it leaves of geometry what no
+//! access changes (`LeavesGeometry`), and adds four entries at most to those that wait for it (`grows`). Where there is no room for them, one
+//! of ARM9's is ignored (`guarded_written`). Clause `refusal`: the stop for which a write is refused, which leaves all, exactly where it would
+//! write HALTCNT's modes 1 or 3, enable a DMA channel with a start that is left out, or start a transfer of the card by a command that is left
+//! out. A read may take a word of the card, at its tick: `after_read` is what it leaves.
 //!
-//! `register_laws`: each register of the maps stands at a multiple of its width (`rows`). An access at a multiple of its width that lies in
-//! no one register goes through the registers that begin in it, each whole, in ascending address: what it reads is theirs, 0 where none is,
-//! and leaves all; a write writes them one after another, and is refused for the first that refuses it (`ascending`).
+//! An access that lies in no one register goes through the registers that begin in it, each whole, in ascending address: what it reads is theirs, 0
+//! where none is; a write writes them one after another, and is refused for the first that refuses it. `register_laws`: each register of the maps
+//! stands at a multiple of its width (`rows`), and so such an access is one of its lower half and then one of its upper half (`halves`), as the code
+//! goes.
 //!
 //! `io_due` is when each unit is due, `first_due` the first of them; `first_acting` is the first that acts of those that are due, which all do but
 //! quiet geometry; it is kept, and found again only where it may have changed. `is_quiet` is true exactly where geometry is due, GXSTAT's selector is
@@ -45,7 +46,7 @@ mod registers;
 mod units;
 
 pub use io::Io;
-pub use ports::{part, register_laws};
+pub use ports::{aligned_down, part, register_laws};
 pub use processor_io::{Before, ProcessorIo};
-pub use registers::{Register, Slot, slot_of};
+pub use registers::{DMA0FILL, DMA0SAD, Register, Slot, slot_of};
 pub use units::{IoParts, Units};

@@ -1,13 +1,14 @@
 //! Accesses of ports.
 
 ghost use Rattle.std.specs.Prelude.{ℕ, ◌≡◌, ◌<◌, ◌≤◌, ◌+◌, ◌%◌, ◌^◌, false, true, IfSome, None, Some};
-ghost use Rattle.ds_base.specs.Numbers.{width_bytes};
+ghost use Rattle.ds_base.specs.Numbers.{aligned_down, width_bytes};
 ghost use Rattle.ds_base.specs.Schedules.{IsEarly};
 ghost use Rattle.ds_base.specs.declared.memories.Width.{Width};
 ghost use Rattle.ds_base.specs.declared.memories.Width.TheVariants.{Word};
 ghost use Rattle.ds_base.specs.declared.processors.Proc.{Proc};
 ghost use Rattle.ds_base.specs.declared.ticks.Tick.{Tick};
-ghost use Rattle.ds_ports.specs.Ports.{GoesAscending, byte_refusal, byte_written, half_refusal, half_written, ignores, with_bytes_from, part, port_byte, port_half, port_read, port_refusal, port_value, port_word, port_written, slot_joined, slot_refusal, slot_value, slot_written, unless_stopped, whole_in, word_refusal, word_written};
+ghost use Rattle.ds_ports.specs.Ports.{ignores, with_bytes_from, part, port_read, port_refusal, port_value, port_written, slot_joined, slot_refusal, slot_value, slot_written, unless_stopped, whole_in};
+ghost use Rattle.ds_ports.specs.PortLaws.{GoesByHalves, byte_refusal, byte_written, half_refusal, half_written, halved_value, halved_refusal, halved_written, port_byte, port_half, port_word, word_refusal, word_written};
 ghost use Rattle.gx_fifo.specs.GxStates.{AreWaiting, waiting_entries};
 ghost use Rattle.ds_ports.specs.Guards.{guarded_refusal, guarded_written, is_overfull};
 ghost use Rattle.ds_ports.specs.HappeningLaws.{Goes, IsProcessorIo, HasOnlyLaterEvents};
@@ -35,6 +36,20 @@ fn bytes_of(width: Width) -> u32
         Width::Byte => 1,
         Width::Half => 2,
         Width::Word => 4,
+    }
+}
+
+/// An offset, aligned down to an access's width.
+#[inline(always)]
+pub fn aligned_down(width: Width, at: u32) -> u32
+    ensures value { result ≡ aligned_down width at }
+    ensures even { result % width_bytes width ≡ 0 }
+    ensures within { result ≤ at }
+{
+    match width {
+        Width::Byte => at,
+        Width::Half => at - at % 2,
+        Width::Word => at - at % 4,
     }
 }
 
@@ -166,11 +181,10 @@ impl Io {
         }
     }
 
-    /// What a processor's access reads at an offset from 4000000h, at a tick.
-    #[tactic(auto, unfolding(crate::specs::Ports::port_value))]
-    pub fn value(&self, proc: Proc, now: Tick, at: u32, width: Width) -> u32
+    /// What an access reads, by halves.
+    fn read_halved(&self, proc: Proc, now: Tick, at: u32, width: Width) -> u32
         requires { at < 2 ^ 24 }
-        ensures { result ≡ port_value proc now self.now at width }
+        ensures { result ≡ halved_value proc now self.now at width }
     {
         match width {
             Width::Byte => self.read_byte(proc, now, at),
@@ -179,14 +193,24 @@ impl Io {
         }
     }
 
-    /// What a processor's read at a tick leaves. Only one of a whole word changes anything: it takes the word that is received, or the card's.
+    /// What a processor's access reads at an offset from 4000000h, aligned down to its width, at a tick.
+    #[tactic(auto, using(crate::proofs::Halving::reads_halved))]
+    pub fn value(&self, proc: Proc, now: Tick, at: u32, width: Width) -> u32
+        requires { at < 2 ^ 24 }
+        ensures { result ≡ port_value proc now self.now (aligned_down width at) width }
+    {
+        self.read_halved(proc, now, aligned_down(width, at), width)
+    }
+
+    /// What a processor's read at a tick leaves, at an offset aligned down to its width. Only one of a whole word changes anything: it takes the word
+    /// that is received, or the card's.
     #[tactic(auto, unfolding(crate::specs::Ports::port_read))]
     pub fn read(&mut self, proc: Proc, now: Tick, at: u32, width: Width)
         requires { IsEarly (Some now) }
-        ensures { self.new ≡ port_read proc now self.old at width }
+        ensures { self.new ≡ port_read proc now self.old (aligned_down width at) width }
     {
         if width == Width::Word {
-            if let Some(slot) = whole_in(Width::Word, slot_of(proc, at)) {
+            if let Some(slot) = whole_in(Width::Word, slot_of(proc, aligned_down(width, at))) {
                 self.read_register(proc, now, slot.register);
             }
         }
@@ -194,15 +218,16 @@ impl Io {
 
     /// The same as `take`, by the register map. A register in which the access lies whole is found once.
     #[inline(never)]
-    #[tactic(auto, using(crate::proofs::Wholes::value_whole, crate::proofs::Wholes::read_whole, crate::proofs::Wholes::read_apart, crate::proofs::Wholes::read_narrow))]
+    #[tactic(auto, using(crate::proofs::Wholes::value_whole, crate::proofs::Wholes::read_whole, crate::proofs::Wholes::read_apart, crate::proofs::Wholes::read_narrow, crate::proofs::Halving::reads_halved))]
     fn take_by_map(&mut self, proc: Proc, now: Tick, at: u32, width: Width) -> u32
         requires at { at < 2 ^ 24 }
+        requires even { at % width_bytes width ≡ 0 }
         requires early { IsEarly (Some now) }
         ensures value { result ≡ port_value proc now self.old at width }
         ensures next { self.new ≡ port_read proc now self.old at width }
     {
         let Some(slot) = whole_in(width, slot_at(proc, at)) else {
-            return self.value(proc, now, at, width);
+            return self.read_halved(proc, now, at, width);
         };
         let value = self.slot_value(proc, now, width, slot);
         if width != Width::Word {
@@ -212,15 +237,17 @@ impl Io {
         value
     }
 
-    /// What a processor's access reads at an offset from 4000000h, at a tick, and the read. What is read most is asked first.
+    /// What a processor's access reads at an offset from 4000000h, aligned down to its width, at a tick, and the read. What is read most is asked
+    /// first.
     #[inline(always)]
     #[tactic(auto, using(crate::proofs::Often::received_word, crate::proofs::Often::received_left))]
     pub fn take(&mut self, proc: Proc, now: Tick, at: u32, width: Width) -> u32
         requires at { at < 2 ^ 24 }
         requires early { IsEarly (Some now) }
-        ensures value { result ≡ port_value proc now self.old at width }
-        ensures next { self.new ≡ port_read proc now self.old at width }
+        ensures value { result ≡ port_value proc now self.old (aligned_down width at) width }
+        ensures next { self.new ≡ port_read proc now self.old (aligned_down width at) width }
     {
+        let at = aligned_down(width, at);
         if let Some(value) = self.value_often(proc, at, width) {
             return value;
         }
@@ -412,7 +439,7 @@ impl Io {
 
     /// A write of any width that lies in no one register, unless it is refused.
     #[inline(never)]
-    #[tactic(auto, unfolding(crate::specs::Ports::port_refusal, crate::specs::Ports::port_written))]
+    #[tactic(auto, using(crate::proofs::Halving::refuses_halved, crate::proofs::Halving::writes_halved))]
     fn put_apart(
         &mut self,
         proc: Proc,
@@ -422,6 +449,7 @@ impl Io {
         value: u32,
     ) -> Option<Stop>
         requires at { at < 2 ^ 24 }
+        requires even { at % width_bytes width ≡ 0 }
         requires early { IsEarly (Some now) }
         requires room { is_overfull proc self.old ≡ false }
         ensures refusal { result ≡ port_refusal proc self.old at width value }
@@ -440,6 +468,7 @@ impl Io {
     #[tactic(auto, using(crate::proofs::Wholes::refusal_whole, crate::proofs::Wholes::written_whole, crate::proofs::Often::sent_refusal, crate::proofs::Often::sent_written))]
     fn put_any(&mut self, proc: Proc, now: Tick, at: u32, width: Width, value: u32) -> Option<Stop>
         requires at { at < 2 ^ 24 }
+        requires even { at % width_bytes width ≡ 0 }
         requires early { IsEarly (Some now) }
         ensures refusal { result ≡ guarded_refusal proc self.old at width value }
         ensures next { self.new ≡ guarded_written proc now self.old at width value }
@@ -457,31 +486,30 @@ impl Io {
         }
     }
 
-    /// A processor's write at an offset from 4000000h, at a tick. Where it is refused, it gives the stop and leaves all: exactly where it would write
-    /// HALTCNT's modes 1 or 3, kind HaltMode with the byte written; ROMCTRL's bit 31, kind CardTransfer with the whole word; or a DMA control that is
-    /// refused, kind DmaStart with the control as it would be kept. `schedule`: it leaves each due tick as it was, or later than its own, where the
-    /// processor's timers and its running channels come later than that. `grows`: it adds four entries at most to those that wait for geometry. While
-    /// more than 320 wait there might be no room for them: then one of ARM9's is ignored.
+    /// A processor's write at an offset from 4000000h, aligned down to its width, at a tick. Where it is refused, it gives the stop and leaves all:
+    /// exactly where it would write HALTCNT's modes 1 or 3, kind HaltMode with the byte written; ROMCTRL's bit 31, kind CardTransfer with the whole
+    /// word; or a DMA control that is refused, kind DmaStart with the control as it would be kept. `schedule`: it leaves each due tick as it was,
+    /// or later than its own, where the processor's timers and its running channels come later than that. `grows`: it adds four entries at most to
+    /// those that wait for geometry. While more than 320 wait there might be no room for them: then one of ARM9's is ignored.
     #[inline(always)]
     pub fn put(&mut self, proc: Proc, now: Tick, at: u32, width: Width, value: u32) -> Option<Stop>
         requires at { at < 2 ^ 24 }
         requires early { IsEarly (Some now) }
-        ensures refusal { result ≡ guarded_refusal proc self.old at width value }
-        ensures next { self.new ≡ guarded_written proc now self.old at width value }
+        ensures refusal { result ≡ guarded_refusal proc self.old (aligned_down width at) width value }
+        ensures next { self.new ≡ guarded_written proc now self.old (aligned_down width at) width value }
         ensures schedule { IsProcessorIo (io_of self.old proc) → HasOnlyLaterEvents now (io_of self.old proc) → Goes proc now self.old self.new }
         ensures grows { AreWaiting self.old.gx → waiting_entries self.new.gx ≤ waiting_entries self.old.gx + 4 }
     {
-        self.put_any(proc, now, at, width, value)
+        self.put_any(proc, now, aligned_down(width, at), width, value)
     }
 }
 
 /// Does nothing; its contract states laws of the maps and of accesses. `rows`: each register stands at a multiple of its width, and its
-/// bytes follow one another from there on. `ascending`: an access at a multiple of its width that lies in no one register goes through
-/// the registers that begin in it, each whole, in ascending address. What it reads are theirs, and 0 where none is; the read leaves all as
-/// it was; a write writes them one after another, and is refused for the first of them that refuses it.
+/// bytes follow one another from there on. `halves`: an access at a multiple of its width that lies in no one register reads, leaves and
+/// refuses what one of its lower half and then one of its upper half does.
 #[tactic(auto, using(crate::proofs::Together::stands_whole))]
 pub fn register_laws()
     ensures rows { (proc : Proc) (at : ℕ) → IfSome (slot_of proc at) (StandsWhole proc at) }
-    ensures ascending { (proc : Proc) (now : Tick) (u : IoState) (at : ℕ) (width : Width) (value : ℕ) → at % width_bytes width ≡ 0
-        → whole_in width (slot_of proc at) ≡ None → GoesAscending proc now u at width value }
+    ensures halves { (proc : Proc) (now : Tick) (u : IoState) (at : ℕ) (width : Width) (value : ℕ) → at % width_bytes width ≡ 0
+        → GoesByHalves proc now u at width value }
 {}

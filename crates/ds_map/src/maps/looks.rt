@@ -7,12 +7,12 @@ ghost use Rattle.ds_map.specs.Accesses.{value_at};
 ghost use Rattle.ds_map.specs.Looks.{map_looked, nine_looked, where_placed};
 ghost use Rattle.ds_map.specs.MapLaws.{is_reached, map_seen};
 
-use super::{Map, aligned_down, rom_value};
+use super::{Map, rom_value};
 use crate::blocks::Block;
 use cp15_tcm::{Cp15, Tcm};
 use ds_base::{DTCM_BYTES, ITCM_BYTES, Proc, Tick, Width};
 use ds_places::{Place, place};
-use ds_ports::Io;
+use ds_ports::{Io, aligned_down};
 
 impl Map {
     /// What stands at a place at a tick.
@@ -25,7 +25,7 @@ impl Map {
         match place {
             Place::Cell { memory, at } => Some(self.cell(memory, at, width)),
             Place::Banks { space, at } => Some(io.vram().read(space, at, width)),
-            Place::Port(at) => Some(io.value(proc, now, aligned_down(width, at), width)),
+            Place::Port(at) => Some(io.value(proc, now, at, width)),
             Place::Rom(at) => Some(rom_value(proc, aligned_down(width, at), width)),
             Place::Nothing => None,
         }

@@ -43,6 +43,12 @@ fn a_wide_write_goes_through_its_registers(rt: HostRuntime) -> Result<(), AllocE
             Reads(Nine, 0x247, Byte, 2),
             Reads(Seven, 0x241, Byte, 2),
             Wramcnt(2),
+            // and by one at 247h, which is aligned down; what no register has reads 0
+            Boot,
+            Write(Nine, 0x247, Word, 0xFE80_8080),
+            Reads(Nine, 0x247, Byte, 2),
+            Reads(Seven, 0x243, Word, 0x0200),
+            Reads(Seven, 0x241, Half, 0x0200),
             // bank H for LCDC at 98000h, bank I at A0000h
             Boot,
             Write(Nine, 0x248, Half, 0x8080),

@@ -1,5 +1,5 @@
-use Rattle.ds_ports.proofs.Ascending.{goes_ascending}
+use Rattle.ds_ports.proofs.Halving.{goes_by_halves}
 use Rattle.ds_ports.proofs.ports.register_laws.Goals as goal
 
-pub returns-clause-ascending : goal.returns-clause-ascending
-returns-clause-ascending c = goes_ascending
+pub returns-clause-halves : goal.returns-clause-halves
+returns-clause-halves c = goes_by_halves

@@ -1,12 +1,13 @@
-use Rattle.ds_ports.proofs.Words.{Byte, GoesAscending, Half, IfSome, IoState, IsWidth, None, Option, Proc, Slot, Some, StandsWhole, Stop, Tick, Width}
+use Rattle.ds_ports.proofs.Words.{Byte, GoesByHalves, Half, IfSome, IoState, IsWidth, None, Option, Proc, Slot, Some, StandsWhole, Stop, Tick, Width}
 use Rattle.ds_ports.proofs.Words.{Word, ap, arith, ascending, begun_refusal, begun_value, begun_written, first_refusal, half_refusal, half_written}
-use Rattle.ds_ports.proofs.Words.{inl, inr, nat_le, none-some, option_or, port_half, port_read, port_refusal, port_value, port_word, port_written}
-use Rattle.ds_ports.proofs.Words.{read_or, refl, refusal_or, same_Some, slot_of, slot_read, subst, sym, true, values_from, whole_in, width_bytes}
-use Rattle.ds_ports.proofs.Words.{word_refusal, word_written, written_or, ℕ, ◌%◌, ◌*◌, ◌+◌, ◌-◌, ◌/◌, ◌<◌, ◌^◌, ◌∙◌, ◌≡◌, ◌≤◌, ◌⊎◌}
+use Rattle.ds_ports.proofs.Words.{halved_refusal, halved_value, halved_written, inl, inr, nat_le, none-some, option_or, port_half, port_refusal}
+use Rattle.ds_ports.proofs.Words.{port_value, port_word, port_written, read_or, refl, refusal_or, same_Some, slot_of, subst, sym, true, values_from}
+use Rattle.ds_ports.proofs.Words.{whole_in, width_bytes, word_refusal, word_written, written_or, ℕ, ◌%◌, ◌*◌, ◌+◌, ◌-◌, ◌/◌, ◌<◌, ◌^◌, ◌∙◌, ◌≡◌, ◌≤◌}
+use Rattle.ds_ports.proofs.Words.{◌⊎◌}
 use Rattle.std.proofs.Math.Nat.{div-div-eq-div-mul}
 use Rattle.ds_ports.proofs.Together.{stands_whole}
 
--- An access that lies in no one register is one of each register that begins in it, whole, in ascending address.
+-- An access at a multiple of its width goes by halves where it lies in no one register.
 
 -- the register of which a byte stands at an offset, if one does, is narrower than a word
 abbrev IsNarrow : Option Slot → Type 0
@@ -300,49 +301,77 @@ module _ (proc : Proc) (now : Tick) where
       ∙ four_stops (begun_refusal proc u (slot_of proc at) value) (begun_refusal proc u (slot_of proc (at + 1)) (value / 2 ^ 8))
       (first_refusal proc u (at + 1 + 1) (value / 2 ^ 8 / 2 ^ 8) 2)
 
-  read_elsewhere : (u : IoState) (slot : Option Slot) → slot ≡ None → slot_read proc now u slot ≡ u
-  read_elsewhere u slot none = ap (λ (x : Option Slot). slot_read proc now u x) none
+  -- ---- what stands in an access's stead where it lies in no one register
 
-  -- no register stands at an offset where a byte lies in none
+  read_turns : (u : IoState) (width : Width) (whole : Option Slot) (halves all : ℕ) → (whole ≡ None → read_or proc now u width whole halves ≡ all)
+      → read_or proc now u width whole all ≡ read_or proc now u width whole halves
+  read_turns u width None halves all h = sym (h refl)
+  read_turns u width (Some slot) halves all h = refl
+
+  written_turns : (u : IoState) (width : Width) (whole : Option Slot) (value : ℕ) (halves all : IoState)
+      → (whole ≡ None → written_or proc now u width whole value halves ≡ all) → written_or proc now u width whole value all ≡ written_or proc now u width whole value halves
+  written_turns u width None value halves all h = sym (h refl)
+  written_turns u width (Some slot) value halves all h = refl
+
+  refusal_turns : (u : IoState) (width : Width) (whole : Option Slot) (value : ℕ) (halves all : Option Stop)
+      → (whole ≡ None → refusal_or proc u width whole value halves ≡ all) → refusal_or proc u width whole value all ≡ refusal_or proc u width whole value halves
+  refusal_turns u width None value halves all h = sym (h refl)
+  refusal_turns u width (Some slot) value halves all h = refl
+
+  -- a byte always lies in one where it is a register's
   byte_there : (t : Slot) → t.byte < t.bytes → whole_in Byte (Some t) ≡ Some t
   byte_there t l = (let e : nat_le (t.byte + 1) t.bytes ≡ true = grind (arith, l) in rw e refl)
 
-  nothing_there : (at : ℕ) (slot : Option Slot) → IfSome slot (StandsWhole proc at) → whole_in Byte slot ≡ None → slot ≡ None
-  nothing_there at None w none = refl
-  nothing_there at (Some t) w none = absurd (none-some t (sym none ∙ byte_there t w.byte))
-
   abbrev ByteGoes : IoState → ℕ → Option Slot → Type 0
   ByteGoes u value slot =
-      (read_or proc now u Byte slot 0 ≡ begun_value proc now u slot + 2 ^ 8 * 0)
-      × (written_or proc now u Byte slot value u ≡ begun_written proc now u slot value)
-      × (refusal_or proc u Byte slot value None ≡ option_or (begun_refusal proc u slot value) None)
+      (read_or proc now u Byte (whole_in Byte slot) (begun_value proc now u slot + 2 ^ 8 * 0) ≡ read_or proc now u Byte slot 0)
+      × (written_or proc now u Byte (whole_in Byte slot) value (begun_written proc now u slot value) ≡ written_or proc now u Byte slot value u)
+      × (refusal_or proc u Byte (whole_in Byte slot) value (option_or (begun_refusal proc u slot value) None) ≡ refusal_or proc u Byte slot value None)
 
-  byte_alone : (u : IoState) (at value : ℕ) → whole_in Byte (slot_of proc at) ≡ None → ByteGoes u value (slot_of proc at)
-  byte_alone u at value none = subst (ByteGoes u value) (sym (nothing_there at (slot_of proc at) (stands_whole proc at) none)) (refl, refl, refl)
+  byte_goes : (u : IoState) (at value : ℕ) (slot : Option Slot) → IfSome slot (StandsWhole proc at) → ByteGoes u value slot
+  byte_goes u at value None w = (refl, refl, refl)
+  byte_goes u at value (Some t) w = rw (byte_there t w.byte) (refl, refl, refl)
 
   first_narrow : (at : ℕ) → at % 2 ≡ 0 → whole_in Half (slot_of proc at) ≡ None → IsNarrow (slot_of proc at)
   first_narrow at even none =
       let e : at + 0 ≡ at = omega arith in
       subst (λ (k : ℕ). IsNarrow (slot_of proc k)) e (narrow_below_half proc at 0 even (omega arith) none)
 
-pub goes_ascending : (proc : Proc) (now : Tick) (u : IoState) (at : ℕ) (width : Width) (value : ℕ)
-    → at % width_bytes width ≡ 0 → whole_in width (slot_of proc at) ≡ None → GoesAscending proc now u at width value
-unfolding port_value port_read port_written port_refusal
-goes_ascending proc now u at Byte value even none =
-    let e = byte_alone proc now u at value none in
-    record { reads = e.0; after_read = refl; writes = e.1; refuses = e.2 }
-goes_ascending proc now u at Half value even none =
-    let a = first_narrow proc now at even none in
-    let b = narrow_below_half proc at 1 even (omega arith) none in
+  second_narrow : (at : ℕ) → at % 2 ≡ 0 → whole_in Half (slot_of proc at) ≡ None → IsNarrow (slot_of proc (at + 1))
+  second_narrow at even none = narrow_below_half proc at 1 even (omega arith) none
+
+pub goes_by_halves : (proc : Proc) (now : Tick) (u : IoState) (at : ℕ) (width : Width) (value : ℕ) → at % width_bytes width ≡ 0
+    → GoesByHalves proc now u at width value
+unfolding port_value port_written port_refusal
+goes_by_halves proc now u at Byte value even =
+    let b = byte_goes proc now u at value (slot_of proc at) (stands_whole proc at) in
+    record { reads = b.0; writes = b.1; refuses = b.2 }
+goes_by_halves proc now u at Half value even =
+    let whole = whole_in Half (slot_of proc at) in
+    let a = first_narrow proc now at even in
+    let b = second_narrow proc now at even in
     record {
-      reads = half_values proc now u at even a b;
-      after_read = refl;
-      writes = half_ascends proc now u at value even a b;
-      refuses = half_refuses proc u at value even a b;
+      reads = read_turns proc now u Half whole _ _ (λ none. half_values proc now u at even (a none) (b none));
+      writes = written_turns proc now u Half whole value _ _ (λ none. half_ascends proc now u at value even (a none) (b none));
+      refuses = refusal_turns proc now u Half whole value _ _ (λ none. half_refuses proc u at value even (a none) (b none));
     }
-goes_ascending proc now u at Word value even none = record {
-  reads = word_values proc now u at even none;
-  after_read = read_elsewhere proc now u (whole_in Word (slot_of proc at)) none;
-  writes = word_ascends proc now u at value even none;
-  refuses = word_refuses proc now u at value even none;
-}
+goes_by_halves proc now u at Word value even =
+    let whole = whole_in Word (slot_of proc at) in
+    record {
+      reads = read_turns proc now u Word whole _ _ (λ none. word_values proc now u at even none);
+      writes = written_turns proc now u Word whole value _ _ (λ none. word_ascends proc now u at value even none);
+      refuses = refusal_turns proc now u Word whole value _ _ (λ none. word_refuses proc now u at value even none);
+    }
+
+-- each alone
+pub reads_halved : (proc : Proc) (now : Tick) (u : IoState) (at : ℕ) (width : Width) → at % width_bytes width ≡ 0
+    → port_value proc now u at width ≡ halved_value proc now u at width
+reads_halved proc now u at width even = (goes_by_halves proc now u at width 0 even).reads
+
+pub writes_halved : (proc : Proc) (now : Tick) (u : IoState) (at : ℕ) (width : Width) (value : ℕ) → at % width_bytes width ≡ 0
+    → port_written proc now u at width value ≡ halved_written proc now u at width value
+writes_halved proc now u at width value even = (goes_by_halves proc now u at width value even).writes
+
+pub refuses_halved : (proc : Proc) (u : IoState) (at : ℕ) (width : Width) (value : ℕ) → at % width_bytes width ≡ 0
+    → port_refusal proc u at width value ≡ halved_refusal proc u at width value
+refuses_halved proc u at width value even = (goes_by_halves proc (record { 0 = 0 }) u at width value even).refuses

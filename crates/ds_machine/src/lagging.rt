@@ -8,7 +8,6 @@ ghost use Rattle.arm_words.specs.Fields.{HasFields};
 ghost use Rattle.ds_base.specs.declared.processors.Arch.TheVariants.{V5};
 ghost use Rattle.ds_base.specs.declared.processors.Proc.TheVariants.{Nine};
 ghost use Rattle.ds_dma.specs.States.{dma_due};
-ghost use Rattle.ds_map.specs.ObservedPorts as ports;
 ghost use Rattle.ds_machine.specs.Lagging as lagging;
 ghost use Rattle.ds_machine.specs.Lagging.{any_observes, channel_observes, nine_observes, observes_by};
 ghost use Rattle.ds_machine.specs.Observing.{all_unobserved, data_unobserved, is_unobserved_at, is_observed_at, made_observed};
@@ -27,27 +26,11 @@ use arm_ops::{DataAccess, Operation, access_made, is_other, loads};
 use arm_words::Instr;
 use cp15_tcm::Tcm;
 use ds_base::{Proc, Width};
+use ds_map::is_observed_port;
 use ds_places::{Place, place};
 use ds_runs::Actor;
 
-/// Whether a port shows how far geometry is, gives it something to do, or makes it heard, by its offset from 4000000h.
-#[inline(always)]
-pub fn is_observed_port(at: u32) -> bool
-    ensures { result ≡ ports.is_observed_port at }
-{
-    // those that are read most are below all of these, or between them
-    if at < 0x60 || (at >= 0xE0 && at < 0x400) {
-        return false;
-    }
-    matches!(
-        at,
-        0x060..=0x063 // DISP3DCNT
-        | 0x400..=0x6FF // geometry's ports
-        | 0x0B8..=0x0BB | 0x0C4..=0x0C7 | 0x0D0..=0x0D3 | 0x0DC..=0x0DF // DMA0CNT to DMA3CNT
-    )
-}
-
-/// Whether a place is such a port.
+/// Whether a place is an observed port.
 #[inline(always)]
 fn is_observed_place(place: Place) -> bool
     ensures { result ≡ lagging.is_observed_place place }

@@ -5,10 +5,9 @@ ghost use Rattle.std.specs.Prelude.{◌≡◌, true};
 ghost use Rattle.arm_ops.specs.Meanings.{is_ram};
 ghost use Rattle.ds_machine.specs.SteadyPorts as ports;
 
-use crate::lagging::is_observed_port;
 use arm_ops::Near;
 use ds_base::{Proc, Width};
-use ds_map::{NineView, SevenView};
+use ds_map::{NineView, SevenView, is_observed_port};
 use ds_places::{PORTS_FIRST, is_main, is_own};
 
 /// Whether an address names ports of which a read changes nothing, and isn't observed: from 4000000h to 40FFFFFh all but those that are observed.

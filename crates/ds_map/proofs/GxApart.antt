@@ -1,12 +1,12 @@
-use Rattle.ds_map.proofs.Words.{ABg, AObj, BBg, BObj, Banks, Bool, BootRom, Byte, Cell, Cells, DmaUnit, Empty, GxState, Half, IoState, Lcdc, List}
-use Rattle.ds_map.proofs.Words.{Main, MapState, Nine, None, Nothing, Oam, Option, Palette, Place, Port, Ports, Proc, Rom, Seven, Shared, Some, Stop}
-use Rattle.ds_map.proofs.Words.{Tick, Video, Vram, Width, Word, [], after_read_at, aligned_down, arith, channel_moved, either, false, if◌then◌else◌}
-use Rattle.ds_map.proofs.Words.{is_byte_of_nine, is_control_word, is_observed_port, map_after_unit, map_fetched, map_read, map_refusal, map_value}
+use Rattle.ds_map.proofs.Words.{ABg, AObj, BBg, BObj, Banks, Bool, BootRom, Byte, Cell, Cells, DmaUnit, Empty, GxState, Half, IfSome, IoState, Lcdc}
+use Rattle.ds_map.proofs.Words.{List, Main, MapState, Nine, None, Nothing, Oam, Option, Palette, Place, Port, Ports, Proc, Rom, Seven, Shared, Some}
+use Rattle.ds_map.proofs.Words.{Stop, Tick, Video, Vram, Width, Word, [], after_read_at, aligned_down, arith, channel_moved, either, false}
+use Rattle.ds_map.proofs.Words.{if◌then◌else◌, is_byte_of_nine, is_observed_port, map_after_unit, map_fetched, map_read, map_refusal, map_value}
 use Rattle.ds_map.proofs.Words.{map_written, memory_size, nat_le, place_at, place_by, place_of, port_refusal, port_written, refl, region}
-use Rattle.ds_map.proofs.Words.{shared_for_nine, takes_no_bytes, true, unit_moved, unit_read, unit_refusal, unit_taken, unit_waits, unless_stopped}
-use Rattle.ds_map.proofs.Words.{vram_written, width_bytes, with_gx, written_at, ℕ, ◌&&◌, ◌+◌, ◌-◌, ◌/◌, ◌<◌, ◌==◌, ◌∙◌, ◌∷◌, ◌≡◌}
-use Rattle.ds_ports.proofs.GxApart.{is_geometry_offset, IsApartFromGeometry, covers_apart, moved_apart, of_geometry, with_it}
-use Rattle.ds_ports.proofs.Arms.{ArmsNoMore, KeepsControls, arms_by, arms_kept, arms_then, finished_arms, keeps_by, keeps_same, read_dma, seven_write_dma, write_keeps}
+use Rattle.ds_map.proofs.Words.{shared_for_nine, slot_of, takes_no_bytes, true, unit_moved, unit_read, unit_refusal, unit_taken, unit_waits}
+use Rattle.ds_map.proofs.Words.{unless_stopped, vram_written, width_bytes, with_gx, written_at, ℕ, ◌&&◌, ◌+◌, ◌-◌, ◌/◌, ◌<◌, ◌==◌, ◌∙◌, ◌∷◌, ◌≡◌}
+use Rattle.ds_ports.proofs.GxApart.{is_geometry, IsApartFromGeometry, covers_apart, moved_apart, of_geometry, with_it}
+use Rattle.ds_ports.proofs.Arms.{ArmsNoMore, KeepsControls, arms_by, arms_kept, arms_then, finished_arms, is_no_control, keeps_by, keeps_same, read_dma, seven_write_dma, write_keeps}
 use Rattle.ds_map.proofs.ObservedPorts.{no_control, no_geometry, observed_same}
 use Rattle.ds_map.proofs.Passed as passed
 use Rattle.ds_map.proofs.Passed.{IsPast, OfOthers, PlacePasses, fetch_passes, place_passes}
@@ -30,10 +30,10 @@ module _ (width : Width) (at k : ℕ) (l : k < width_bytes width) (h : is_observ
   unseen : is_observed_port (aligned_down width at + k) ≡ false
   unseen = observed_same (aligned_down width at + k) at (same_word width at k l) ∙ h
 
-  apart_from_geometry : is_geometry_offset (aligned_down width at + k) ≡ false
+  apart_from_geometry : IfSome (slot_of Nine (aligned_down width at + k)) (λ s. is_geometry s.register ≡ false)
   apart_from_geometry = no_geometry (aligned_down width at + k) unseen
 
-  apart_from_controls : is_control_word ((aligned_down width at + k) / 4) ≡ false
+  apart_from_controls : IfSome (slot_of Nine (aligned_down width at + k)) (λ s. is_no_control s.register ≡ true)
   apart_from_controls = no_control (aligned_down width at + k) unseen
 
 port_apart : (proc : Proc) (width : Width) (at : ℕ) → IsApartPlace proc (Port at) → IsApartFromGeometry proc (aligned_down width at) width

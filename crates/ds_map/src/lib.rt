@@ -22,8 +22,10 @@
 mod blocks;
 mod maps;
 mod moves;
+mod observed_ports;
 mod views;
 
 pub use blocks::Block;
 pub use maps::{Given, Map, looked_by_nine, wait_at};
+pub use observed_ports::is_observed_port;
 pub use views::{NineView, SevenView, fetched_by_nine};

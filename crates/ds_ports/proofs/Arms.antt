@@ -1,14 +1,12 @@
-use Rattle.ds_ports.proofs.Words.{Bool, Cause, Channel, DmaNine, DmaState, Dmacnt, Dmadad, Dmasad, IoState, List, Nine, None, PortRow, Proc, Register}
-use Rattle.ds_ports.proofs.Words.{Seven, Some, Tick, Width, [], after_write, ap, arith, both, channel_at, dma_finished, dma_triggered, due_channel}
-use Rattle.ds_ports.proofs.Words.{equal, false, if◌then◌else◌, inl, inr, is_armed, least_running, length, length-map, length-set, map, not, one_of}
-use Rattle.ds_ports.proofs.Words.{port_read, port_written, refl, register_map, row_bytes, rules, slice_set, slot_in, slot_of, subst, suc, sym, true}
-use Rattle.ds_ports.proofs.Words.{true≢false, width_bytes, zero, ℕ, ◌%◌, ◌&&◌, ◌+◌, ◌-◌, ◌/◌, ◌<◌, ◌==◌, ◌||◌, ◌∙◌, ◌∷◌, ◌≡◌, ◌≤◌}
+use Rattle.ds_ports.proofs.Words.{Bool, Cause, Channel, DmaNine, DmaState, Dmacnt, Dmadad, Dmasad, IfSome, IoState, List, Nine, None, Proc, Register}
+use Rattle.ds_ports.proofs.Words.{Seven, Some, Tick, Width, [], after_write, ap, arith, channel_at, dma_finished, dma_triggered, due_channel, false}
+use Rattle.ds_ports.proofs.Words.{if◌then◌else◌, is_armed, least_running, length, length-map, length-set, map, not, port_read, port_written, refl}
+use Rattle.ds_ports.proofs.Words.{rules, slice_set, slot_of, subst, suc, sym, true, true≢false, width_bytes, zero, ℕ, ◌&&◌, ◌+◌, ◌<◌, ◌∙◌, ◌∷◌, ◌≡◌}
 use Rattle.ds_dma.specs.Channels.{after_unit, is_last_of_burst, is_last_unit, is_triggered, triggered, armed_again, emptied, rest_of}
 use Rattle.ds_dma.specs.Controls.{is_armed_again, is_enabled, waits_for, disabled, burst_of, kept_address}
 use Rattle.ds_dma.specs.declared.controls.Cause.TheVariants.{Geometry}
-use Rattle.ds_ports.proofs.Covered.{Of, OfKind, covers, covers_all, write_leaves}
+use Rattle.ds_ports.proofs.Covered.{Of, covers, covers_all, write_leaves}
 use Rattle.ds_ports.proofs.Passed.{keeps_part, read_left, row_leaves, write_left}
-use Rattle.ds_ports.proofs.RegisterMaps.{each_place, of_place, slot_by_all}
 
 -- Which of ARM9's channels are enabled with the start of the geometry FIFO is told by their controls, and of ports those are changed by writes of DMAxCNT alone.
 
@@ -109,41 +107,11 @@ finished_arms dma now waits =
       none = set_each Q (λ x h. h) dma.channels which c (unit_arms dma.proc which (due_channel dma));
     }
 
--- ---- the words of DMA0CNT to DMA3CNT, at B8h, C4h, D0h and DCh (GBATEK, "DS I/O Maps")
+-- ---- each register but DMA0CNT to DMA3CNT
 
-abbrev pub is_control_word : ℕ → Bool
-is_control_word word = (word == 0x2E) || ((word == 0x31) || ((word == 0x34) || (word == 0x37)))
-
-abbrev is_no_control : Register → Bool
+abbrev pub is_no_control : Register → Bool
 is_no_control Dmacnt = false
 is_no_control _ = true
-
--- a row's register at a place is none of them, or stands in one of those words
-abbrev place_fits : PortRow → ℕ → Bool
-place_fits r place = is_no_control (r.register place) || ((r.bytes == 4) && ((r.offset % 4 == 0) && is_control_word (r.offset / 4 + place)))
-
-same_word : (offset at : ℕ) → offset % 4 ≡ 0 → offset ≤ at → offset / 4 + (at - offset) / 4 ≡ at / 4
-same_word offset at h le = omega (arith, h, le)
-
-slot_fits : (r : PortRow) (at : ℕ) → each_place place_fits r ≡ true → at - r.offset < row_bytes r → r.offset ≤ at → is_control_word (at / 4) ≡ false
-    → is_no_control (slot_in r (at - r.offset)).register ≡ true
-slot_fits r at h inside le out =
-    let place = (at - r.offset) / r.bytes in
-    elim (one_of (is_no_control (r.register place)) ((r.bytes == 4) && ((r.offset % 4 == 0) && is_control_word (r.offset / 4 + place))) (of_place place_fits r (at - r.offset) h inside)) [
-      | inl other ↦ other
-      | inr there ↦
-          (let four = both (r.bytes == 4) ((r.offset % 4 == 0) && is_control_word (r.offset / 4 + place)) there in
-          let whole = both (r.offset % 4 == 0) (is_control_word (r.offset / 4 + place)) four.1 in
-          let word : r.offset / 4 + place ≡ at / 4 =
-          ap (λ (n : ℕ). r.offset / 4 + (at - r.offset) / n) (equal r.bytes 4 four.0) ∙ same_word r.offset at (equal (r.offset % 4) 0 whole.0) le in
-          absurd (true≢false (sym whole.1 ∙ ap is_control_word word ∙ out)))
-    ]
-
-slot_of_fits : (at : ℕ) → is_control_word (at / 4) ≡ false → OfKind is_no_control (slot_of Nine at)
-unfolding slot_of
-slot_of_fits at out = slot_by_all (Of is_no_control) (each_place place_fits) (register_map Nine) at refl (λ r h inside le lies. slot_fits r at h inside le out)
-
--- ---- each register
 
 nine_keeps : (now : Tick) (u : IoState) (register : Register) (n word : ℕ) → is_no_control register ≡ true
     → KeepsControls u.nine.dma (after_write Nine now u register n word).nine.dma
@@ -152,13 +120,14 @@ nine_keeps now u Dmasad n word h = keeps_set u.nine.dma n (record (channel_at u.
 nine_keeps now u Dmadad n word h = keeps_set u.nine.dma n (record (channel_at u.nine.dma.channels n) { dad = kept_address word }) refl
 nine_keeps now u register n word h = keeps_by u.nine.dma _ (row_leaves DmaNine Nine now u register n word refl)
 
--- ---- accesses: a write of ARM9's none of whose bytes lies in those words keeps the controls; and ARM7's keep all of ARM9's channels, and so do reads
+-- ---- accesses: a write of ARM9's of none of those registers keeps the controls; and ARM7's keep all of ARM9's channels, and so do reads
 
-pub write_keeps : (now : Tick) (u : IoState) (at : ℕ) (width : Width) (value : ℕ) → ((k : ℕ) → k < width_bytes width → is_control_word ((at + k) / 4) ≡ false)
+pub write_keeps : (now : Tick) (u : IoState) (at : ℕ) (width : Width) (value : ℕ)
+    → ((k : ℕ) → k < width_bytes width → IfSome (slot_of Nine (at + k)) (λ s. is_no_control s.register ≡ true))
     → KeepsControls u.nine.dma (port_written Nine now u at width value).nine.dma
 write_keeps now u at width value apart =
     write_leaves (Of is_no_control) Nine now (λ x y. KeepsControls x.nine.dma y.nine.dma) (λ x. keeps_same x.nine.dma) (λ x y z. keeps_then x.nine.dma y.nine.dma z.nine.dma)
-    (λ x slot word h. nine_keeps now x slot.register slot.number word h) u at width value (covers is_no_control Nine at width (λ k l. slot_of_fits (at + k) (apart k l)))
+    (λ x slot word h. nine_keeps now x slot.register slot.number word h) u at width value (covers is_no_control Nine at width apart)
 
 pub seven_write_dma : (now : Tick) (u : IoState) (at : ℕ) (width : Width) (value : ℕ) → (port_written Seven now u at width value).nine.dma ≡ u.nine.dma
 seven_write_dma now u at width value = write_left DmaNine Seven now u at width value (covers_all (keeps_part DmaNine Seven) Seven at width refl)

@@ -1,24 +1,26 @@
-use Rattle.ds_ports.proofs.Words.{Bool, Dma, Geometry, GxState, HBlank, IoState, List, Nine, None, Option, PortRow, Proc, Register, Seven, Shown}
-use Rattle.ds_ports.proofs.Words.{Some, Stop, Tick, Timer, UnitPart, VBlank, Width, ap, arith, both_raised, card_done_at, card_due, card_starter}
-use Rattle.ds_ports.proofs.Words.{channel_due, channel_moved, channels_triggered, false, held_due, if◌then◌else◌, io_at_boot, io_due, io_event}
-use Rattle.ds_ports.proofs.Words.{is_part, is_stalled, nat_le, nat_lt, refl, row_bytes, scan_due_tick, shown_to_others, touches_none, true}
-use Rattle.ds_ports.proofs.Words.{unless_stop, video_done, video_shown, video_stop, width_bytes, with_gx, ℕ, ◌&&◌, ◌+◌, ◌<◌, ◌||◌, ◌∙◌, ◌≡◌, ◌≢◌}
+use Rattle.ds_ports.proofs.Words.{Bool, Dma, Geometry, GxCommand, GxState, GxWord, HBlank, IfSome, IoState, List, Nine, None, Option, Proc, Register}
+use Rattle.ds_ports.proofs.Words.{Seven, Shown, Slot, Some, Stop, Tick, Timer, UnitPart, VBlank, Width, ap, both_raised, card_done_at, card_due}
+use Rattle.ds_ports.proofs.Words.{card_starter, channel_due, channel_moved, channels_triggered, false, held_due, if◌then◌else◌, io_at_boot, io_due}
+use Rattle.ds_ports.proofs.Words.{io_event, is_part, is_stalled, refl, scan_due_tick, shown_to_others, slot_of, touches_none, true, true≢false}
+use Rattle.ds_ports.proofs.Words.{unless_stop, video_done, video_shown, video_stop, width_bytes, with_gx, ℕ, ◌+◌, ◌<◌, ◌∙◌, ◌≡◌, ◌≢◌}
 use Rattle.ds_runs.specs.declared.actors.Actor.TheVariants.{Card}
 use Rattle.video2d.specs.Videos.{video_after_event}
 use Rattle.ds_runs.specs.declared.actors.Actor as actor
 use Rattle.ds_ports.specs.Touches as touches
-use Rattle.ds_ports.proofs.Covered.{Covers, chosen, covers, covers_all, slot_is}
+use Rattle.ds_ports.proofs.Covered.{Covers, chosen, covers, covers_all}
 
 -- What neither sees geometry nor changes it: the registers of all ports but its own, and the units' events but its own.
 
--- ---- geometry's registers stand in two ranges: DISP3DCNT, and those from GXFIFO on (GBATEK, "DS I/O Maps")
+-- ---- geometry's registers (GBATEK, "DS I/O Maps")
 
-abbrev pub is_geometry_offset : ℕ → Bool
-is_geometry_offset at = (nat_le 0x60 at && nat_lt at 0x64) || (nat_le 0x400 at && nat_lt at 0x700)
+abbrev pub is_geometry : Register → Bool
+is_geometry GxWord = true
+is_geometry GxCommand = true
+is_geometry _ = false
 
 -- an access reaches none of them: ARM7's never does
 abbrev pub IsApartFromGeometry : Proc → ℕ → Width → Type 0
-IsApartFromGeometry Nine at width = (k : ℕ) → k < width_bytes width → is_geometry_offset (at + k) ≡ false
+IsApartFromGeometry Nine at width = (k : ℕ) → k < width_bytes width → IfSome (slot_of Nine (at + k)) (λ s. is_geometry s.register ≡ false)
 IsApartFromGeometry Seven at width = Unit
 
 -- another geometry engine is another part of the units
@@ -28,16 +30,17 @@ of_geometry = is_part touches.Geometry
 abbrev pub no_geometry : Proc → Register → Bool
 no_geometry proc = touches_none of_geometry proc
 
-abbrev is_geometry_row : PortRow → Bool
-is_geometry_row r = (nat_le 0x60 r.offset && nat_le (r.offset + row_bytes r) 0x64) || (nat_le 0x400 r.offset && nat_le (r.offset + row_bytes r) 0x700)
+register_apart : (register : Register) → is_geometry register ≡ false → no_geometry Nine register ≡ true
+register_apart GxWord h = absurd (true≢false h)
+register_apart GxCommand h = absurd (true≢false h)
+register_apart _ h = refl
 
-elsewhere : (offset bytes at : ℕ) → ((nat_le 0x60 offset && nat_le (offset + bytes) 0x64) || (nat_le 0x400 offset && nat_le (offset + bytes) 0x700)) ≡ true
-    → is_geometry_offset at ≡ false → (nat_le offset at && nat_lt at (offset + bytes)) ≡ false
-elsewhere offset bytes at h k = grind (arith, h, k)
+slot_apart : (slot : Option Slot) → IfSome slot (λ s. is_geometry s.register ≡ false) → IfSome slot (λ s. no_geometry Nine s.register ≡ true)
+slot_apart None h = tt
+slot_apart (Some slot) h = register_apart slot.register h
 
 pub covers_apart : (proc : Proc) (at : ℕ) (width : Width) → IsApartFromGeometry proc at width → Covers (no_geometry proc) proc at width
-covers_apart Nine at width apart =
-    covers (no_geometry Nine) Nine at width (λ k l. slot_is is_geometry_row (no_geometry Nine) Nine (at + k) refl (λ r h. elsewhere r.offset (row_bytes r) (at + k) h (apart k l)))
+covers_apart Nine at width apart = covers (no_geometry Nine) Nine at width (λ k l. slot_apart (slot_of Nine (at + k)) (apart k l))
 covers_apart Seven at width apart = covers_all (no_geometry Seven) Seven at width refl
 
 abbrev pub with_it : GxState → IoState

@@ -1,7 +1,11 @@
-use Rattle.std.specs.Prelude.{ℕ, ◌+◌, ◌-◌, nat_lt, if◌then◌else◌, List, [], ◌∷◌, ◌++◌, Option, Some, None}
+use Rattle.std.specs.Prelude.{ℕ, ◌+◌, ◌-◌, ◌*◌, ◌/◌, ◌%◌, nat_lt, if◌then◌else◌, List, [], ◌∷◌, ◌++◌, Option, Some, None}
 use Rattle.ds_base.specs.declared.processors.Proc.{Proc}
+use Rattle.ds_ports.specs.declared.registers.Register.{Register}
+use Rattle.ds_ports.specs.declared.registers.Register.TheVariants.{GxCommand, GxWord}
 use Rattle.ds_ports.specs.declared.registers.Slot.{Slot}
 use Rattle.ds_ports.specs.RegisterMap.{PortRow, of_nine, display_port, slot_by, slot_in, display_control_rows, status_rows, drawing_rows, gx_control_rows, output_rows, dma_rows, fill_rows, timer_and_key_rows, more_key_rows, ipc_rows, interrupt_rows, memory_rows, maths_rows, boot_rows, power_rows, geometry_rows, second_engine_rows, receive_rows}
+use Rattle.gx_fifo.specs.declared.ports.GxPort.{GxPort}
+use Rattle.gx_fifo.specs.declared.ports.GxPort.TheVariants.{Display, Fifo, Direct, Unlisted}
 use Rattle.video2d.specs.declared.display_registers.DisplayRow.{DisplayRow}
 
 -- A map is cut into parts, each with the offset at which it ends, so that an offset is looked up in its part alone. No public clause speaks
@@ -15,6 +19,18 @@ slot_among rows at = slot_by rows at
 abbrev pub slot_from : ℕ → ℕ → Option DisplayRow → Option Slot
 slot_from base at None = None
 slot_from base at (Some row) = Some (slot_in (display_port base row) (at - (base + row.first)))
+
+-- the byte at an offset, of the word that it stands in
+abbrev pub word_slot : Register → ℕ → Slot
+word_slot register at = record { register = register; number = at / 4 * 4; byte = at % 4; bytes = 4 }
+
+-- and by the port of geometry's that it is, past DISP3DCNT
+abbrev pub port_slot : GxPort → ℕ → Option Slot
+port_slot Display at = None
+port_slot Unlisted at = None
+port_slot Fifo at = Some (word_slot GxCommand at)
+port_slot (Direct code) at = Some (word_slot GxCommand at)
+port_slot _ at = Some (word_slot GxWord at)
 
 pub record Part : Type 0 where
   pub limit : ℕ

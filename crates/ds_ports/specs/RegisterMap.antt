@@ -4,7 +4,7 @@ use Rattle.ds_base.specs.declared.processors.Proc.TheVariants.{Nine, Seven}
 use Rattle.ds_ports.specs.declared.registers.Register.{Register}
 use Rattle.ds_ports.specs.declared.registers.Register.TheVariants.{DisplayHalf, DisplayWord, GxWord, GxCommand, Dmasad, Dmadad, Dmacnt, Dmafill, TmcntL, TmcntH, Keyinput, Keycnt, Extkeyin, Ipcsync, Ipcfifocnt, Ipcfifosend, Ipcfiforecv, Auxspicnt, CardWord, CardData, Ime, Ie, If, Vramcnt, Wramcnt, Vramstat, Wramstat, Divcnt, DivNumer, DivDenom, DivResult, DivremResult, Sqrtcnt, SqrtResult, SqrtParam, Postflg, Haltcnt}
 use Rattle.ds_ports.specs.declared.registers.Slot.{Slot}
-use Rattle.gx_fifo.specs.GxPorts.{GxPortRow, display_control_row, engine_rows}
+use Rattle.gx_fifo.specs.GxPorts.{GxPortRow, display_control_row, engine_past, engine_rows}
 use Rattle.video2d.specs.DisplayRegisters.{control_registers, display_row, drawing_registers, engine_base, engine_bytes, engine_registers, output_registers}
 use Rattle.video2d.specs.declared.display_registers.DisplayRegister.{DisplayRegister}
 use Rattle.video2d.specs.declared.display_registers.DisplayRegister.TheVariants.{Dispstat, Vcount, Powcnt1}
@@ -190,8 +190,8 @@ slot_of proc at = slot_by (register_map proc) at
 abbrev pub numbers_of : Register → ℕ
 numbers_of DisplayHalf = engine_base B + engine_bytes
 numbers_of DisplayWord = engine_base B + engine_bytes
-numbers_of GxWord = 0x6A4
-numbers_of GxCommand = 0x6A4
+numbers_of GxWord = engine_past
+numbers_of GxCommand = engine_past
 numbers_of Dmasad = 4
 numbers_of Dmadad = 4
 numbers_of Dmacnt = 4

@@ -1,17 +1,24 @@
 //! The register map: which register stands at an offset.
 
 ghost use Rattle.std.specs.Prelude.{◌≡◌, ◌<◌, ◌≤◌, ◌+◌, ◌-◌, ◌*◌, ◌/◌, [], ◌%◌, ◌^◌, ◌==◌, ◌++◌, if◌then◌else◌, Some, IfSome};
-ghost use Rattle.ds_ports.specs.Parts.{high_parts, looked_up, low_parts, parts_of, slot_among, slot_from};
+ghost use Rattle.ds_ports.specs.Parts.{high_parts, looked_up, low_parts, parts_of, port_slot, slot_among, slot_from};
 ghost use Rattle.ds_ports.specs.RegisterMap.{slot_of, IsSlot, of_nine, display_ports, display_control_rows, status_rows, drawing_rows, gx_control_rows, output_rows, dma_rows, fill_rows, timer_and_key_rows, more_key_rows, ipc_rows, interrupt_rows, memory_rows, maths_rows, boot_rows, power_rows, geometry_rows, second_engine_rows, receive_rows};
 ghost use Rattle.ds_ports.specs.declared.registers.Register.TheVariants.{DisplayHalf};
 ghost use Rattle.video2d.specs.DisplayRegisters.{control_registers, drawing_registers, engine_registers, output_registers, HasByteAt};
 ghost use Rattle.video2d.specs.declared.engines.Engine.TheVariants.{A, B};
 
 use ds_base::Proc;
+use gx_fifo::{DISP3DCNT, GxPort, port_at};
 use video2d::{
     DisplayRegister, DisplayRow, Engine, control_row_at, drawing_row_at, engine_row_at,
     output_row_at,
 };
+
+/// DMA0SAD's offset from 4000000h. Each channel has three words from there on, its control the last.
+pub const DMA0SAD: u32 = 0x0B0;
+
+/// DMA0FILL's, behind the channels.
+pub const DMA0FILL: u32 = 0x0E0;
 
 /// A register, by GBATEK's name ("DS I/O Maps"). Those of one name are told apart by a `Slot`'s number.
 #[derive(Clone, Copy, PartialEq, Eq)]
@@ -286,13 +293,10 @@ fn drawing(proc: Proc, at: u32) -> Option<Slot>
 fn gx_control(proc: Proc, at: u32) -> Option<Slot>
     ensures { result ≡ slot_among (of_nine proc gx_control_rows) at }
 {
-    match proc {
-        Proc::Nine => match at {
-            0x060..=0x063 => words(Register::GxWord, 0x060, at), // DISP3DCNT
-            _ => None,
-        },
-        Proc::Seven => None,
+    if proc == Proc::Seven || at < DISP3DCNT || at >= DISP3DCNT + 4 {
+        return None;
     }
+    words(Register::GxWord, DISP3DCNT, at)
 }
 
 /// Its display capture and master brightness.
@@ -315,7 +319,7 @@ fn fills(proc: Proc, at: u32) -> Option<Slot>
 {
     match proc {
         Proc::Nine => match at {
-            0x0E0..=0x0EF => in_row(Register::Dmafill, 4, at - 0x0E0), // DMA0FILL to DMA3FILL
+            DMA0FILL..=0x0EF => in_row(Register::Dmafill, 4, at - DMA0FILL), // DMA0FILL to DMA3FILL
             _ => None,
         },
         Proc::Seven => None,
@@ -328,16 +332,17 @@ fn fills(proc: Proc, at: u32) -> Option<Slot>
 fn dma(at: u32) -> Option<Slot>
     ensures { result ≡ slot_among dma_rows at }
 {
-    match at {
-        0x0B0..=0x0DF => in_three(
-            Register::Dmasad,
-            Register::Dmadad,
-            Register::Dmacnt,
-            4,
-            at - 0x0B0,
-        ), // DMA0SAD, DMA0DAD, DMA0CNT to DMA3SAD, DMA3DAD, DMA3CNT
-        _ => None,
+    if at < DMA0SAD || at >= DMA0FILL {
+        return None;
     }
+    // DMA0SAD, DMA0DAD, DMA0CNT to DMA3SAD, DMA3DAD, DMA3CNT
+    in_three(
+        Register::Dmasad,
+        Register::Dmadad,
+        Register::Dmacnt,
+        4,
+        at - DMA0SAD,
+    )
 }
 
 /// The keys that ARM7 alone reads.
@@ -472,24 +477,33 @@ fn boot(at: u32) -> Option<Slot>
     }
 }
 
-/// The geometry engine.
+/// The byte of a word at an offset that a port of the geometry engine is, past DISP3DCNT.
 #[inline(always)]
-#[tactic(auto, unfolding(crate::specs::Parts::slot_among))]
+fn in_port(port: GxPort, at: u32) -> Option<Slot>
+    ensures { result ≡ port_slot port at }
+{
+    let register = match port {
+        GxPort::Display | GxPort::Unlisted => return None,
+        GxPort::Fifo | GxPort::Direct(_) => Register::GxCommand,
+        _ => Register::GxWord,
+    };
+    Some(Slot {
+        register,
+        number: at / 4 * 4,
+        byte: at % 4,
+        bytes: 4,
+    })
+}
+
+/// The geometry engine, by its own table.
+#[inline(always)]
+#[tactic(auto, using(crate::proofs::GxRows::among_ports), unfolding(crate::specs::Parts::slot_among))]
 fn geometry(proc: Proc, at: u32) -> Option<Slot>
+    requires { 0x400 ≤ at }
     ensures { result ≡ slot_among (of_nine proc geometry_rows) at }
 {
     match proc {
-        Proc::Nine => match at {
-            0x400..=0x43F => words(Register::GxCommand, 0x400, at), // GXFIFO
-            0x440..=0x5FF => words(Register::GxCommand, 0x440, at), // MTX_MODE to VEC_TEST, the geometry commands
-            0x600..=0x603 => words(Register::GxWord, 0x600, at), // GXSTAT
-            0x604..=0x607 => words(Register::GxWord, 0x604, at), // RAM_COUNT
-            0x620..=0x62F => words(Register::GxWord, 0x620, at), // POS_RESULT
-            0x630..=0x637 => words(Register::GxWord, 0x630, at), // VEC_RESULT, three halves
-            0x640..=0x67F => words(Register::GxWord, 0x640, at), // CLIPMTX_RESULT
-            0x680..=0x6A3 => words(Register::GxWord, 0x680, at), // VECMTX_RESULT
-            _ => None,
-        },
+        Proc::Nine => in_port(port_at(at), at),
         Proc::Seven => None,
     }
 }
@@ -529,10 +543,10 @@ fn by_low_parts(proc: Proc, at: u32) -> Option<Slot>
         0..=0x003 => display_control(proc, at),
         0x004..=0x007 => status(at),
         0x008..=0x05F => drawing(proc, at),
-        0x060..=0x063 => gx_control(proc, at),
+        DISP3DCNT..=0x063 => gx_control(proc, at),
         0x064..=0x0AF => output(proc, at),
-        0x0B0..=0x0DF => dma(at),
-        0x0E0..=0x0FF => fills(proc, at),
+        DMA0SAD..=0x0DF => dma(at),
+        DMA0FILL..=0x0FF => fills(proc, at),
         0x100..=0x135 => timers_and_keys(at),
         0x136..=0x17F => more_keys(proc, at),
         0x180..=0x1FF => ipc(at),

@@ -1,4 +1,4 @@
-use Rattle.std.specs.Prelude.{ℕ, ◌+◌, ◌-◌, ◌*◌, ◌/◌, if◌then◌else◌, Bool, true, false, List, [], ◌∷◌}
+use Rattle.std.specs.Prelude.{ℕ, ◌+◌, ◌-◌, ◌*◌, ◌/◌, nat_le, nat_lt, ◌&&◌, if◌then◌else◌, Bool, true, false, List, [], ◌∷◌}
 use Rattle.ds_base.specs.Numbers.{is_within}
 use Rattle.gx_fifo.specs.declared.ports.GxPort.{GxPort}
 use Rattle.gx_fifo.specs.declared.ports.GxPort.TheVariants.{Display, Fifo, Direct, Status, Lengths, Position, Vector, Clip, VectorMatrix, Unlisted}
@@ -17,12 +17,15 @@ gx_port_row first words takes_commands port = record { first = first; words = wo
 abbrev pub display_control_row : GxPortRow
 display_control_row = gx_port_row 0x060 1 false (λ i. Display)  -- DISP3DCNT
 
--- the engine's own stand from here on; what is no register's among them, or behind them, is no other unit's either
+-- the engine's own stand from the first of these up to the second; what is no register's there is no other unit's either
 abbrev pub engine_first : ℕ
 engine_first = 0x400
 
+abbrev pub engine_past : ℕ
+engine_past = 0x700
+
 abbrev pub is_engine_port : ℕ → Bool
-is_engine_port at = is_within engine_first 0x300 at
+is_engine_port at = nat_le engine_first at && nat_lt at engine_past
 
 abbrev pub engine_rows : List GxPortRow
 engine_rows =

@@ -1,13 +1,11 @@
-use Rattle.run_ahead.proofs.Words.{Bool, ConsoleState, KeyLine, Left, List, Nine, None, Ok, Option, Proc, Seven, Some, [], and_parts, ap, arith}
-use Rattle.run_ahead.proofs.Words.{false, head_format, length, list_all, map, most_entries, nat_le, not, read_format, rules, subst, suc, sym, true}
-use Rattle.run_ahead.proofs.Words.{zero, ℕ, ◌&&◌, ◌*◌, ◌+◌, ◌-◌, ◌==◌, ◌>>=◌, ◌||◌, ◌∙◌, ◌∷◌, ◌≡◌, ◌≤◌}
-use Rattle.ds_state.specs.Formats.{Format, done, then_field, then_part, list, code_width, word_format, signed_format}
+use Rattle.run_ahead.proofs.Words.{Bool, ConsoleState, KeyLine, Left, List, Nine, Ok, Option, Proc, Seven, [], and_parts, ap, arith}
+use Rattle.run_ahead.proofs.Words.{head_format, length, list_all, map, most_entries, nat_le, not, read_format, rules, subst, suc, true}
+use Rattle.run_ahead.proofs.Words.{zero, ℕ, ◌*◌, ◌+◌, ◌==◌, ◌>>=◌, ◌||◌, ◌∙◌, ◌∷◌, ◌≡◌, ◌≤◌}
+use Rattle.ds_state.specs.Formats.{Format, word_format, signed_format}
 use Rattle.run_ahead.specs.Saved.{console_of, format_behind, read_console, read_state, StatesAreShort}
 use Rattle.arm_core.specs.Saved.{registers_format}
 use Rattle.cp15_tcm.specs.Saved.{cp15_format}
 use Rattle.ds_base.specs.Numbers.{width_bytes, zeroes}
-use Rattle.ds_base.specs.declared.memories.Width.{Width}
-use Rattle.ds_base.specs.declared.memories.Width.TheVariants.{Byte, Half, Word}
 use Rattle.ds_base.specs.declared.processors.Arch.{Arch}
 use Rattle.ds_base.specs.declared.processors.Arch.TheVariants.{V4, V5}
 use Rattle.ds_card.specs.Saved.{card_format}

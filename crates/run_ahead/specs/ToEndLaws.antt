@@ -9,7 +9,6 @@ use Rattle.run_ahead.specs.Consoles.{ConsoleState}
 use Rattle.run_ahead.specs.Turns.{Turns}
 use Rattle.run_ahead.specs.TurnLaws.{shown_in}
 use Rattle.run_ahead.specs.declared.turns.Turned.{Turned}
-use Rattle.run_ahead.specs.declared.turns.Turned.TheVariants.{Stopped}
 use Rattle.run_ahead.specs.ToEnd.{TurnsToEnd}
 
 -- Turns come to an end, are one list, and end as the reference run does.

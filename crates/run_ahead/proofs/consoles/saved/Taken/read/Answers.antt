@@ -1,4 +1,4 @@
-use Rattle.run_ahead.proofs.Words.{Err, Left, Unpacked, ap, arith, refl, slice_index, subst, sym, with_file, ℕ, ◌<◌, ◌≡◌}
+use Rattle.run_ahead.proofs.Words.{Err, Left, Unpacked, ap, arith, slice_index, subst, sym, with_file, ℕ, ◌<◌, ◌≡◌}
 use Rattle.run_ahead.specs.Saved.{FailsState, console_of, read_state}
 use Rattle.run_ahead.specs.declared.consoles.saved.Taken.{Taken}
 use Rattle.run_ahead.proofs.SavedStates.{bytes_behind_head, hands_on, left_over}

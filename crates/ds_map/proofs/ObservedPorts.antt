@@ -2,13 +2,13 @@ use Rattle.ds_map.proofs.Words.{Bool, IfSome, Nine, None, Option, Slot, Some, ap
 use Rattle.ds_map.proofs.Words.{is_observed_register, is_observed_slot, nat_le, nat_lt, neither, not, not_true, refl, slot_of, subst, sym, true, ℕ}
 use Rattle.ds_map.proofs.Words.{◌%◌, ◌&&◌, ◌+◌, ◌-◌, ◌/◌, ◌<◌, ◌==◌, ◌∙◌, ◌≡◌, ◌≤◌, ◌⊎◌}
 use Rattle.std.specs.Prelude.{◌||◌}
-use Rattle.gx_fifo.specs.GxPorts.{is_engine_port}
+use Rattle.gx_fifo.specs.GxPorts.{display_control_row, engine_first, engine_past, is_engine_port}
 use Rattle.ds_ports.proofs.Arms.{is_no_control}
 use Rattle.ds_ports.proofs.GxApart.{is_geometry}
 use Rattle.ds_ports.proofs.Covered.{slot_is}
 use Rattle.ds_ports.proofs.RegisterMaps.{each_place, of_place, slot_by_all}
 use Rattle.ds_ports.proofs.Together.{stands_whole}
-use Rattle.ds_ports.specs.RegisterMap.{PortRow, StandsWhole, register_map, row_bytes}
+use Rattle.ds_ports.specs.RegisterMap.{PortRow, StandsWhole, fill_row, register_map, row_bytes}
 use Rattle.ds_ports.specs.declared.registers.Register.{Register}
 use Rattle.ds_ports.specs.declared.registers.Register.TheVariants.{Dmacnt, GxCommand, GxWord}
 
@@ -95,33 +95,42 @@ no_control at h = slot_isnt (λ r. is_no_control r ≡ true) not_control (slot_o
 
 -- ---- no register is observed that stands elsewhere than from DISP3DCNT up to DMA's, or among geometry's
 
-abbrev stands_near : PortRow → Bool
-stands_near r = (nat_le 0x060 r.offset && nat_le (r.offset + row_bytes r) 0x0E0) || (nat_le 0x400 r.offset && nat_le (r.offset + row_bytes r) 0x700)
+abbrev lies_between : ℕ → ℕ → ℕ → ℕ → Bool
+lies_between first past offset bytes = nat_le first offset && nat_le (offset + bytes) past
 
-elsewhere : (offset bytes at : ℕ) → ((nat_le 0x060 offset && nat_le (offset + bytes) 0x0E0) || (nat_le 0x400 offset && nat_le (offset + bytes) 0x700)) ≡ true
-    → (at < 0x060) ⊎ (((0x0E0 ≤ at) × (at < 0x400)) ⊎ (0x700 ≤ at)) → (nat_le offset at && nat_lt at (offset + bytes)) ≡ false
+abbrev is_near : ℕ → ℕ → Bool
+is_near offset bytes = lies_between display_control_row.first fill_row.offset offset bytes || lies_between engine_first engine_past offset bytes
+
+abbrev stands_near : PortRow → Bool
+stands_near r = is_near r.offset (row_bytes r)
+
+-- an offset at which nothing of the sort stands
+abbrev IsFar : ℕ → Type 0
+IsFar at = (at < display_control_row.first) ⊎ (((fill_row.offset ≤ at) × (at < engine_first)) ⊎ (engine_past ≤ at))
+
+elsewhere : (offset bytes at : ℕ) → is_near offset bytes ≡ true → IsFar at → (nat_le offset at && nat_lt at (offset + bytes)) ≡ false
 elsewhere offset bytes at h far = grind (arith, h, far)
 
 unseen : (slot : Option Slot) → IfSome slot (λ s. not (is_observed_register s.register) ≡ true) → is_observed_slot slot ≡ false
 unseen None h = refl
 unseen (Some s) h = not_true (is_observed_register s.register) h
 
-engine_elsewhere : (at : ℕ) → (at < 0x060) ⊎ (((0x0E0 ≤ at) × (at < 0x400)) ⊎ (0x700 ≤ at)) → is_engine_port at ≡ false
+engine_elsewhere : (at : ℕ) → IsFar at → is_engine_port at ≡ false
 engine_elsewhere at far = grind (arith, far)
 
-unobserved : (at : ℕ) → (at < 0x060) ⊎ (((0x0E0 ≤ at) × (at < 0x400)) ⊎ (0x700 ≤ at)) → is_observed_port at ≡ false
+unobserved : (at : ℕ) → IsFar at → is_observed_port at ≡ false
 unobserved at far =
     let none = slot_is stands_near (λ r. not (is_observed_register r)) Nine at refl (λ r h. elsewhere r.offset (row_bytes r) at h far) in
     rw (engine_elsewhere at far, unseen (slot_of Nine at) none) refl
 
-pub unobserved_below : (at : ℕ) → at < 0x060 → is_observed_port at ≡ false
+pub unobserved_below : (at : ℕ) → at < display_control_row.first → is_observed_port at ≡ false
 unobserved_below at l = unobserved at (inl l)
 
 -- past DMA's, what is observed is geometry's
-pub observed_above : (at : ℕ) → 0x0E0 ≤ at → is_observed_port at ≡ is_engine_port at
+pub observed_above : (at : ℕ) → fill_row.offset ≤ at → is_observed_port at ≡ is_engine_port at
 observed_above at f = by_engine (is_engine_port at) refl where
   by_engine : (b : Bool) → is_engine_port at ≡ b → is_observed_port at ≡ is_engine_port at
   by_engine true e = rw e refl
   by_engine false e =
-      let far : (at < 0x400) ⊎ (0x700 ≤ at) = grind (arith, e) in
+      let far : (at < engine_first) ⊎ (engine_past ≤ at) = grind (arith, e) in
       elim far [ inl l ↦ unobserved at (inr (inl (f, l))) | inr past ↦ unobserved at (inr (inr past)) ] ∙ sym e

@@ -4,7 +4,7 @@ use Rattle.std.proofs.Common.{map}
 use Rattle.ds_base.specs.Numbers.{is_within}
 use Rattle.ds_ports.specs.Parts.{port_slot, word_slot}
 use Rattle.ds_ports.specs.RegisterMap.{geometry_rows, gx_row}
-use Rattle.gx_fifo.specs.GxPorts.{GxPortRow, engine_rows, port_among}
+use Rattle.gx_fifo.specs.GxPorts.{GxPortRow, display_control_row, engine_first, engine_rows, port_among}
 
 -- The rows of the map that are geometry's are looked up in geometry's own table.
 
@@ -72,8 +72,8 @@ are_alike = (
 )
 
 -- past DISP3DCNT
-pub among_ports : (at : ℕ) → 0x400 ≤ at → slot_among geometry_rows at ≡ port_slot (gx_port at) at
+pub among_ports : (at : ℕ) → engine_first ≤ at → slot_among geometry_rows at ≡ port_slot (gx_port at) at
 unfolding slot_among gx_port
 among_ports at l =
-    let past : is_within 0x060 4 at ≡ false = grind (arith, l) in
+    let past : is_within display_control_row.first (4 * display_control_row.words) at ≡ false = grind (arith, l) in
     by_rows engine_rows at are_alike ∙ rw past refl

@@ -3,7 +3,8 @@ use Rattle.ds_base.specs.declared.processors.Proc.{Proc}
 use Rattle.ds_ports.specs.declared.registers.Register.{Register}
 use Rattle.ds_ports.specs.declared.registers.Register.TheVariants.{GxCommand, GxWord}
 use Rattle.ds_ports.specs.declared.registers.Slot.{Slot}
-use Rattle.ds_ports.specs.RegisterMap.{PortRow, of_nine, display_port, slot_by, slot_in, display_control_rows, status_rows, drawing_rows, gx_control_rows, output_rows, dma_rows, fill_rows, timer_and_key_rows, more_key_rows, ipc_rows, interrupt_rows, memory_rows, maths_rows, boot_rows, power_rows, geometry_rows, second_engine_rows, receive_rows}
+use Rattle.ds_ports.specs.RegisterMap.{PortRow, of_nine, display_port, slot_by, slot_in, display_control_rows, status_rows, drawing_rows, gx_row, output_rows, dma_rows, fill_row, timer_and_key_rows, more_key_rows, ipc_rows, interrupt_rows, memory_rows, maths_rows, boot_rows, power_rows, geometry_rows, second_engine_rows, receive_rows}
+use Rattle.gx_fifo.specs.GxPorts.{display_control_row}
 use Rattle.gx_fifo.specs.declared.ports.GxPort.{GxPort}
 use Rattle.gx_fifo.specs.declared.ports.GxPort.TheVariants.{Display, Fifo, Direct, Unlisted}
 use Rattle.video2d.specs.declared.display_registers.DisplayRow.{DisplayRow}
@@ -50,8 +51,8 @@ looked_up (p ∷ parts) at = if nat_lt at p.limit then slot_among p.rows at else
 abbrev pub low_parts : Proc → List Part
 low_parts proc =
     map_part 0x004 (of_nine proc display_control_rows) ∷ map_part 0x008 status_rows ∷ map_part 0x060 (of_nine proc drawing_rows)
-    ∷ map_part 0x064 (of_nine proc gx_control_rows)
-    ∷ map_part 0x0B0 (of_nine proc output_rows) ∷ map_part 0x0E0 dma_rows ∷ map_part 0x100 (of_nine proc fill_rows)
+    ∷ map_part 0x064 (of_nine proc (gx_row display_control_row ∷ []))
+    ∷ map_part 0x0B0 (of_nine proc output_rows) ∷ map_part 0x0E0 dma_rows ∷ map_part 0x100 (of_nine proc (fill_row ∷ []))
     ∷ map_part 0x136 timer_and_key_rows ∷ map_part 0x180 (more_key_rows proc) ∷ map_part 0x200 ipc_rows ∷ []
 
 abbrev pub high_parts : Proc → List Part

@@ -4,7 +4,7 @@ use Rattle.ds_base.specs.declared.processors.Proc.TheVariants.{Nine, Seven}
 use Rattle.ds_ports.specs.declared.registers.Register.{Register}
 use Rattle.ds_ports.specs.declared.registers.Register.TheVariants.{DisplayHalf, DisplayWord, GxWord, GxCommand, Dmasad, Dmadad, Dmacnt, Dmafill, TmcntL, TmcntH, Keyinput, Keycnt, Extkeyin, Ipcsync, Ipcfifocnt, Ipcfifosend, Ipcfiforecv, Auxspicnt, CardWord, CardData, Ime, Ie, If, Vramcnt, Wramcnt, Vramstat, Wramstat, Divcnt, DivNumer, DivDenom, DivResult, DivremResult, Sqrtcnt, SqrtResult, SqrtParam, Postflg, Haltcnt}
 use Rattle.ds_ports.specs.declared.registers.Slot.{Slot}
-use Rattle.gx_fifo.specs.GxPorts.{GxPortRow, display_control_row, engine_past, engine_rows}
+use Rattle.gx_fifo.specs.GxPorts.{GxPortRow, display_control_row, engine_rows, vector_matrix_row}
 use Rattle.video2d.specs.DisplayRegisters.{control_registers, display_row, drawing_registers, engine_base, engine_bytes, engine_registers, output_registers}
 use Rattle.video2d.specs.declared.display_registers.DisplayRegister.{DisplayRegister}
 use Rattle.video2d.specs.declared.display_registers.DisplayRegister.TheVariants.{Dispstat, Vcount, Powcnt1}
@@ -72,17 +72,14 @@ status_rows = display_ports 0 (Dispstat ∷ Vcount ∷ [])
 abbrev pub drawing_rows : List PortRow
 drawing_rows = display_ports (engine_base A) drawing_registers
 
-abbrev pub gx_control_rows : List PortRow
-gx_control_rows = gx_row display_control_row ∷ []  -- DISP3DCNT
-
 abbrev pub output_rows : List PortRow
 output_rows = display_ports (engine_base A) (output_registers A)
 
 abbrev pub dma_rows : List PortRow
 dma_rows = three_in_turn 0x0B0 4 4 Dmasad Dmadad Dmacnt ∷ []  -- DMA0SAD, DMA0DAD, DMA0CNT to DMA3SAD, DMA3DAD, DMA3CNT
 
-abbrev pub fill_rows : List PortRow
-fill_rows = port_row 0x0E0 4 4 Dmafill ∷ []  -- DMA0FILL to DMA3FILL
+abbrev pub fill_row : PortRow
+fill_row = port_row 0x0E0 4 4 Dmafill  -- DMA0FILL to DMA3FILL
 
 abbrev pub timer_and_key_rows : List PortRow
 timer_and_key_rows =
@@ -157,8 +154,8 @@ receive_rows =
 
 abbrev pub register_map : Proc → List PortRow
 register_map proc =
-    of_nine proc display_control_rows ++ status_rows ++ of_nine proc drawing_rows ++ of_nine proc gx_control_rows ++ of_nine proc output_rows
-    ++ dma_rows ++ of_nine proc fill_rows
+    of_nine proc display_control_rows ++ status_rows ++ of_nine proc drawing_rows ++ of_nine proc (gx_row display_control_row ∷ [])
+    ++ of_nine proc output_rows ++ dma_rows ++ of_nine proc (fill_row ∷ [])
     ++ timer_and_key_rows ++ more_key_rows proc ++ ipc_rows
     ++ interrupt_rows ++ memory_rows proc
     ++ of_nine proc maths_rows
@@ -190,8 +187,8 @@ slot_of proc at = slot_by (register_map proc) at
 abbrev pub numbers_of : Register → ℕ
 numbers_of DisplayHalf = engine_base B + engine_bytes
 numbers_of DisplayWord = engine_base B + engine_bytes
-numbers_of GxWord = engine_past
-numbers_of GxCommand = engine_past
+numbers_of GxWord = vector_matrix_row.first + 4 * vector_matrix_row.words
+numbers_of GxCommand = vector_matrix_row.first + 4 * vector_matrix_row.words
 numbers_of Dmasad = 4
 numbers_of Dmadad = 4
 numbers_of Dmacnt = 4

@@ -1,9 +1,10 @@
 //! The register map: which register stands at an offset.
 
-ghost use Rattle.std.specs.Prelude.{◌≡◌, ◌<◌, ◌≤◌, ◌+◌, ◌-◌, ◌*◌, ◌/◌, [], ◌%◌, ◌^◌, ◌==◌, ◌++◌, if◌then◌else◌, Some, IfSome};
+ghost use Rattle.std.specs.Prelude.{◌≡◌, ◌<◌, ◌≤◌, ◌+◌, ◌-◌, ◌*◌, ◌/◌, [], ◌∷◌, ◌%◌, ◌^◌, ◌==◌, ◌++◌, if◌then◌else◌, Some, IfSome};
 ghost use Rattle.ds_ports.specs.Parts.{high_parts, looked_up, low_parts, parts_of, port_slot, slot_among, slot_from};
-ghost use Rattle.ds_ports.specs.RegisterMap.{slot_of, IsSlot, of_nine, display_ports, display_control_rows, status_rows, drawing_rows, gx_control_rows, output_rows, dma_rows, fill_rows, timer_and_key_rows, more_key_rows, ipc_rows, interrupt_rows, memory_rows, maths_rows, boot_rows, power_rows, geometry_rows, second_engine_rows, receive_rows};
+ghost use Rattle.ds_ports.specs.RegisterMap.{slot_of, IsSlot, of_nine, display_ports, display_control_rows, status_rows, drawing_rows, gx_row, output_rows, dma_rows, fill_row, timer_and_key_rows, more_key_rows, ipc_rows, interrupt_rows, memory_rows, maths_rows, boot_rows, power_rows, geometry_rows, second_engine_rows, receive_rows};
 ghost use Rattle.ds_ports.specs.declared.registers.Register.TheVariants.{DisplayHalf};
+ghost use Rattle.gx_fifo.specs.GxPorts.{display_control_row};
 ghost use Rattle.video2d.specs.DisplayRegisters.{control_registers, drawing_registers, engine_registers, output_registers, HasByteAt};
 ghost use Rattle.video2d.specs.declared.engines.Engine.TheVariants.{A, B};
 
@@ -291,7 +292,7 @@ fn drawing(proc: Proc, at: u32) -> Option<Slot>
 #[inline(always)]
 #[tactic(auto, unfolding(crate::specs::Parts::slot_among))]
 fn gx_control(proc: Proc, at: u32) -> Option<Slot>
-    ensures { result ≡ slot_among (of_nine proc gx_control_rows) at }
+    ensures { result ≡ slot_among (of_nine proc (gx_row display_control_row ∷ [])) at }
 {
     if proc == Proc::Seven || at < DISP3DCNT || at >= DISP3DCNT + 4 {
         return None;
@@ -315,7 +316,7 @@ fn output(proc: Proc, at: u32) -> Option<Slot>
 #[inline(always)]
 #[tactic(auto, unfolding(crate::specs::Parts::slot_among))]
 fn fills(proc: Proc, at: u32) -> Option<Slot>
-    ensures { result ≡ slot_among (of_nine proc fill_rows) at }
+    ensures { result ≡ slot_among (of_nine proc (fill_row ∷ [])) at }
 {
     match proc {
         Proc::Nine => match at {

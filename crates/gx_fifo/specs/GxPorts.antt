@@ -17,6 +17,9 @@ gx_port_row first words takes_commands port = record { first = first; words = wo
 abbrev pub display_control_row : GxPortRow
 display_control_row = gx_port_row 0x060 1 false (λ i. Display)  -- DISP3DCNT
 
+abbrev pub vector_matrix_row : GxPortRow
+vector_matrix_row = gx_port_row 0x680 9 false (λ i. VectorMatrix i)  -- VECMTX_RESULT, the last of the engine's own
+
 -- the engine's own stand from the first of these up to the second; what is no register's there is no other unit's either
 abbrev pub engine_first : ℕ
 engine_first = 0x400
@@ -36,7 +39,7 @@ engine_rows =
     ∷ gx_port_row 0x620 4 false (λ i. Position i)  -- POS_RESULT
     ∷ gx_port_row 0x630 2 false (λ i. Vector i)  -- VEC_RESULT, three halves
     ∷ gx_port_row 0x640 16 false (λ i. Clip i)  -- CLIPMTX_RESULT
-    ∷ gx_port_row 0x680 9 false (λ i. VectorMatrix i)  -- VECMTX_RESULT
+    ∷ vector_matrix_row
     ∷ []
 
 abbrev pub port_among : List GxPortRow → ℕ → GxPort

@@ -56,8 +56,7 @@ FromBoot c cart keys holds =
 -- a command that runs a cartridge with a key script did this from the machine at boot; or one of the files is refused, of which the answer speaks,
 -- and nothing was done
 abbrev pub GivesBy : Call → List ℕ → Option (List ℕ) → (MachineState → Type 0) → List ℕ → Status → Type 0
-GivesBy c cart keys did named status =
-    FromBoot c cart keys did ⊎ (IsUntouched c × RefusesRun c.files c.shelf_rose cart keys status named)
+GivesBy c cart keys did named status = FromBoot c cart keys did ⊎ (IsUntouched c × RefusesRun c.files c.shelf_rose cart keys status named)
 
 -- a console that is switched on, with its machine at boot
 abbrev pub switched_on : MachineState → ConsoleState

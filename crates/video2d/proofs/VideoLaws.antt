@@ -13,8 +13,10 @@ use Rattle.video2d.proofs.Colours.{laid_frame, line_colours, line_long}
 use Rattle.video2d.specs.Engines.{coordinate_at, engine_at_boot, engine_byte_by, point_started, point_stepped, point_written, points_after, points_started, points_stepped, word_of_28, word_of_half}
 use Rattle.video2d.specs.VideoLaws.{IsVideo, StayTelling, StaysVideo, TellScan, TellsScan}
 use Rattle.video2d.specs.Pictures.{line_place, screen_of}
+use Rattle.video2d.specs.DisplayRegisters.{display_offset}
 use Rattle.video2d.specs.Ports.{video_port}
 use Rattle.video2d.specs.Scans.{blanks_drawn_line, line_after}
+use Rattle.video2d.specs.declared.display_registers.DisplayRegister.TheVariants.{Bg2pa, Bg3pa}
 use Rattle.video2d.specs.declared.ports.VideoPort.{VideoPort}
 use Rattle.video2d.specs.declared.ports.VideoPort.TheVariants.{Status, Count, OfEngine, Power, Nothing}
 
@@ -27,21 +29,21 @@ coordinate_small ports at = by_number (number_at Word ports at) where
   by_number : (n : ℕ) → word_of_28 n < 2 ^ 32
   by_number n = either (λ (x : ℕ). x < 2 ^ 32) (nat_lt (n % 2 ^ 28) (2 ^ 27)) _ _ (omega arith) (omega arith)
 
-started_is : (ports : List ℕ) (n : ℕ) → IsPoint (point_started ports n)
-started_is ports n = record { x = coordinate_small ports _; y = coordinate_small ports _ }
+started_is : (ports : List ℕ) (first : ℕ) → IsPoint (point_started ports first)
+started_is ports first = record { x = coordinate_small ports _; y = coordinate_small ports _ }
 
-stepped_is : (ports : List ℕ) (n : ℕ) (p : PointState) → IsPoint (point_stepped ports n p)
-stepped_is ports n p = record {
-  x = mod_small (p.x + word_of_half (number_at Half ports (0x10 * n + 2)));
-  y = mod_small (p.y + word_of_half (number_at Half ports (0x10 * n + 6)));
+stepped_is : (ports : List ℕ) (slopes : ℕ) (p : PointState) → IsPoint (point_stepped ports slopes p)
+stepped_is ports slopes p = record {
+  x = mod_small (p.x + word_of_half (number_at Half ports (slopes + 2)));
+  y = mod_small (p.y + word_of_half (number_at Half ports (slopes + 6)));
 } where
   mod_small : (n : ℕ) → n % 2 ^ 32 < 2 ^ 32
   mod_small n = omega arith
 
-written_is : (ports : List ℕ) (n at : ℕ) (p : PointState) → IsPoint p → IsPoint (point_written ports n at p)
-written_is ports n at p is =
-    either IsPoint (is_within (0x10 * n + 8) 4 at) _ _ (record { x = coordinate_small ports _; y = is.y })
-    (either IsPoint (is_within (0x10 * n + 12) 4 at) _ _ (record { x = is.x; y = coordinate_small ports _ }) is)
+written_is : (ports : List ℕ) (first at : ℕ) (p : PointState) → IsPoint p → IsPoint (point_written ports first at p)
+written_is ports first at p is =
+    either IsPoint (is_within first 4 at) _ _ (record { x = coordinate_small ports _; y = is.y })
+    (either IsPoint (is_within (first + 4) 4 at) _ _ (record { x = is.x; y = coordinate_small ports _ }) is)
 
 -- ---- an engine
 
@@ -49,8 +51,8 @@ points_is : (which : Engine) (at : ℕ) (e : EngineState) → IsEngine which e �
 points_is which at e is = record {
   long = is.long;
   kept = is.kept;
-  two = written_is e.ports 2 at e.two is.two;
-  three = written_is e.ports 3 at e.three is.three;
+  two = written_is e.ports _ at e.two is.two;
+  three = written_is e.ports _ at e.three is.three;
 }
 
 set_is : (which : Engine) (e : EngineState) (at value : ℕ) → IsEngine which e
@@ -174,10 +176,10 @@ drawn_is m palette oam v which frame lt is =
     (line_colours m palette oam which v.power (engine_of v which) v.scan.line) is
 
 stepped_all : (which : Engine) (e : EngineState) → IsEngine which e → IsEngine which (points_stepped e)
-stepped_all which e is = record { long = is.long; kept = is.kept; two = stepped_is e.ports 2 e.two; three = stepped_is e.ports 3 e.three }
+stepped_all which e is = record { long = is.long; kept = is.kept; two = stepped_is e.ports (display_offset Bg2pa) e.two; three = stepped_is e.ports (display_offset Bg3pa) e.three }
 
 started_all : (which : Engine) (e : EngineState) → IsEngine which e → IsEngine which (points_started e)
-started_all which e is = record { long = is.long; kept = is.kept; two = started_is e.ports 2; three = started_is e.ports 3 }
+started_all which e is = record { long = is.long; kept = is.kept; two = started_is e.ports _; three = started_is e.ports _ }
 
 drawn_line : (s : ScanState) → blanks_drawn_line s ≡ true → s.line < 192
 drawn_line s h = grind (arith, h)

@@ -6,7 +6,7 @@ use Rattle.bg2d.specs.declared.layers.AffineLayer.{AffineLayer}
 use Rattle.bg2d.specs.declared.layers.TextLayer.{TextLayer}
 use Rattle.bg_ext.specs.declared.layers.ExtLayer.{ExtLayer}
 use Rattle.video2d.specs.DisplayRegisters.{engine_bytes, engine_row_at, display_offset, kept_at, read_of}
-use Rattle.video2d.specs.declared.display_registers.DisplayRegister.TheVariants.{Bg0cnt, Bg0hofs, Bldalpha, Bldcnt, Bldy, Dispcapcnt, Dispcnt, MasterBright, Mosaic}
+use Rattle.video2d.specs.declared.display_registers.DisplayRegister.TheVariants.{Bg0cnt, Bg0hofs, Bg2pa, Bg2x, Bg3pa, Bg3x, Bldalpha, Bldcnt, Bldy, Dispcapcnt, Dispcnt, MasterBright, Mosaic}
 use Rattle.video2d.specs.declared.display_registers.DisplayRow.{DisplayRow}
 use Rattle.video2d.specs.declared.engines.Engine.{Engine}
 use Rattle.video2d.specs.declared.engines.Engine.TheVariants.{A, B}
@@ -71,7 +71,7 @@ abbrev pub object_mosaic : EngineState → ℕ
 object_mosaic e = slice_index e.ports (display_offset Mosaic + 1)
 
 -- ---- running points (GBATEK, "LCD I/O BG Rotation/Scaling"): the point at the left end of the line, each coordinate a word with 8 fractional
--- bits. PA to PD, X and Y of background n stand from offset 10h n on (BG2PA, BG3PA)
+-- bits. Backgrounds 2 and 3 have four slopes each, PA to PD, which are halves, and X and Y, which are words
 
 -- a half, and a number of 28 bits, as signed words
 abbrev pub word_of_half : ℕ → ℕ
@@ -84,29 +84,29 @@ word_of_28 number = let low = number % 2 ^ 28 in if nat_lt low (2 ^ 27) then low
 abbrev pub coordinate_at : List ℕ → ℕ → ℕ
 coordinate_at ports at = word_of_28 (number_at Word ports at)
 
--- both are copied when line 0 starts
+-- both are copied when line 0 starts, from the offset of X
 abbrev pub point_started : List ℕ → ℕ → PointState
-point_started ports n = record { x = coordinate_at ports (0x10 * n + 8); y = coordinate_at ports (0x10 * n + 12) }
+point_started ports first = record { x = coordinate_at ports first; y = coordinate_at ports (first + 4) }
 
 -- each is copied when any byte of it is written
 abbrev pub point_written : List ℕ → ℕ → ℕ → PointState → PointState
-point_written ports n at p =
-    if is_within (0x10 * n + 8) 4 at then record p { x = coordinate_at ports (0x10 * n + 8) }
-    else (if is_within (0x10 * n + 12) 4 at then record p { y = coordinate_at ports (0x10 * n + 12) } else p)
+point_written ports first at p =
+    if is_within first 4 at then record p { x = coordinate_at ports first }
+    else (if is_within (first + 4) 4 at then record p { y = coordinate_at ports (first + 4) } else p)
 
--- PB and PD are added after a line, modulo 2^32
+-- PB and PD are added after a line, modulo 2^32; by the offset of PA
 abbrev pub coordinate_stepped : ℕ → ℕ → ℕ
 coordinate_stepped coordinate half = (coordinate + word_of_half half) % 2 ^ 32
 
 abbrev pub point_stepped : List ℕ → ℕ → PointState → PointState
-point_stepped ports n p =
-    record { x = coordinate_stepped p.x (number_at Half ports (0x10 * n + 2)); y = coordinate_stepped p.y (number_at Half ports (0x10 * n + 6)) }
+point_stepped ports slopes p =
+    record { x = coordinate_stepped p.x (number_at Half ports (slopes + 2)); y = coordinate_stepped p.y (number_at Half ports (slopes + 6)) }
 
 abbrev pub points_started : EngineState → EngineState
-points_started e = record e { two = point_started e.ports 2; three = point_started e.ports 3 }
+points_started e = record e { two = point_started e.ports (display_offset Bg2x); three = point_started e.ports (display_offset Bg3x) }
 
 abbrev pub points_stepped : EngineState → EngineState
-points_stepped e = record e { two = point_stepped e.ports 2 e.two; three = point_stepped e.ports 3 e.three }
+points_stepped e = record e { two = point_stepped e.ports (display_offset Bg2pa) e.two; three = point_stepped e.ports (display_offset Bg3pa) e.three }
 
 -- ---- a byte of the ports is read and written
 
@@ -114,7 +114,8 @@ abbrev pub engine_byte : Engine → EngineState → ℕ → ℕ
 engine_byte which e at = read_of (engine_row_at which at) (slice_index e.ports at)
 
 abbrev pub points_after : ℕ → EngineState → EngineState
-points_after at e = record e { two = point_written e.ports 2 at e.two; three = point_written e.ports 3 at e.three }
+points_after at e =
+    record e { two = point_written e.ports (display_offset Bg2x) at e.two; three = point_written e.ports (display_offset Bg3x) at e.three }
 
 abbrev pub engine_byte_by : Option DisplayRow → EngineState → ℕ → ℕ → EngineState
 engine_byte_by None e at value = e
@@ -138,6 +139,9 @@ text_layer_of which e n = record {
 abbrev pub point_of : EngineState → ℕ → PointState
 point_of e n = if n == 2 then e.two else e.three
 
+abbrev pub slopes_at : ℕ → ℕ
+slopes_at n = display_offset (if n == 2 then Bg2pa else Bg3pa)
+
 abbrev pub affine_layer_of : Engine → EngineState → ℕ → AffineLayer
 affine_layer_of which e n = record {
   engine = engine_number which;
@@ -145,8 +149,8 @@ affine_layer_of which e n = record {
   control = bgcnt e n;
   x = cast_signed w32 (point_of e n).x;
   y = cast_signed w32 (point_of e n).y;
-  pa = cast_signed w16 (number_at Half e.ports (0x10 * n));
-  pc = cast_signed w16 (number_at Half e.ports (0x10 * n + 4));
+  pa = cast_signed w16 (number_at Half e.ports (slopes_at n));
+  pc = cast_signed w16 (number_at Half e.ports (slopes_at n + 4));
 }
 
 abbrev pub ext_layer_of : Engine → EngineState → ℕ → ExtLayer
@@ -157,6 +161,6 @@ ext_layer_of which e n = record {
   control = bgcnt e n;
   x = cast_signed w32 (point_of e n).x;
   y = cast_signed w32 (point_of e n).y;
-  pa = cast_signed w16 (number_at Half e.ports (0x10 * n));
-  pc = cast_signed w16 (number_at Half e.ports (0x10 * n + 4));
+  pa = cast_signed w16 (number_at Half e.ports (slopes_at n));
+  pc = cast_signed w16 (number_at Half e.ports (slopes_at n + 4));
 }

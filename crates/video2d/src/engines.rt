@@ -1,8 +1,8 @@
 //! The two 2D engines, and their registers.
 
-ghost use Rattle.std.specs.Prelude.{◌≡◌, ◌<◌, ◌≤◌, slice_index, slice_set};
+ghost use Rattle.std.specs.Prelude.{◌≡◌, ◌<◌, ◌≤◌, slice_index, slice_set, ◌+◌};
 ghost use Rattle.video2d.specs.DisplayRegisters.{engine_base, engine_bytes};
-ghost use Rattle.video2d.specs.Engines.{engine_at_boot, dispcnt, bgcnt, bghofs, bgvofs, bldcnt, bldalpha, bldy, dispcapcnt, master_bright, background_mosaic, object_mosaic, points_started, points_stepped, points_after, point_of, engine_byte, engine_byte_written, engine_number, text_layer_of, affine_layer_of, ext_layer_of};
+ghost use Rattle.video2d.specs.Engines.{engine_at_boot, dispcnt, bgcnt, bghofs, bgvofs, bldcnt, bldalpha, bldy, dispcapcnt, master_bright, background_mosaic, object_mosaic, points_started, points_stepped, points_after, point_of, slopes_at, engine_byte, engine_byte_written, engine_number, text_layer_of, affine_layer_of, ext_layer_of};
 
 use crate::display_registers::{DisplayRegister, engine_row_at};
 use crate::points::{PORTS, Point, half_at, word_at};
@@ -198,8 +198,10 @@ impl EngineRegisters {
     fn copy_points(&mut self, at: usize)
         ensures { self.new ≡ points_after at self.old }
     {
-        self.two.write(&self.ports, 2, at);
-        self.three.write(&self.ports, 3, at);
+        self.two
+            .write(&self.ports, DisplayRegister::Bg2x.first(), at);
+        self.three
+            .write(&self.ports, DisplayRegister::Bg3x.first(), at);
     }
 
     /// A byte is written at an offset.
@@ -220,16 +222,16 @@ impl EngineRegisters {
     pub fn start_points(&mut self)
         ensures { self.new ≡ points_started self.old }
     {
-        self.two.start(&self.ports, 2);
-        self.three.start(&self.ports, 3);
+        self.two.start(&self.ports, DisplayRegister::Bg2x.first());
+        self.three.start(&self.ports, DisplayRegister::Bg3x.first());
     }
 
     /// One line further.
     pub fn step_points(&mut self)
         ensures { self.new ≡ points_stepped self.old }
     {
-        self.two.step(&self.ports, 2);
-        self.three.step(&self.ports, 3);
+        self.two.step(&self.ports, DisplayRegister::Bg2pa.first());
+        self.three.step(&self.ports, DisplayRegister::Bg3pa.first());
     }
 
     /// Background n as a text background.
@@ -265,8 +267,8 @@ impl EngineRegisters {
             control: self.bgcnt(n),
             x: self.point(n).x().cast_signed(),
             y: self.point(n).y().cast_signed(),
-            pa: half_at(&self.ports, 0x10 * n as usize).cast_signed(),
-            pc: half_at(&self.ports, 0x10 * n as usize + 4).cast_signed(),
+            pa: half_at(&self.ports, slopes(n)).cast_signed(),
+            pc: half_at(&self.ports, slopes(n) + 4).cast_signed(),
         }
     }
 
@@ -282,8 +284,21 @@ impl EngineRegisters {
             control: self.bgcnt(n),
             x: self.point(n).x().cast_signed(),
             y: self.point(n).y().cast_signed(),
-            pa: half_at(&self.ports, 0x10 * n as usize).cast_signed(),
-            pc: half_at(&self.ports, 0x10 * n as usize + 4).cast_signed(),
+            pa: half_at(&self.ports, slopes(n)).cast_signed(),
+            pc: half_at(&self.ports, slopes(n) + 4).cast_signed(),
         }
+    }
+}
+
+/// Where PA to PD of background n stand, 2 or 3.
+#[inline(always)]
+fn slopes(n: u8) -> usize
+    ensures is { result ≡ slopes_at n }
+    ensures near { result + 8 ≤ engine_bytes }
+{
+    if n == 2 {
+        DisplayRegister::Bg2pa.first()
+    } else {
+        DisplayRegister::Bg3pa.first()
     }
 }

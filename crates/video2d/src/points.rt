@@ -108,34 +108,33 @@ impl Point {
         self.y
     }
 
-    /// The point becomes that of background n as X and Y are kept.
-    pub fn start(&mut self, ports: &[u8; PORTS], n: usize)
-        requires { n ≤ 3 }
-        ensures { self.new ≡ point_started ports.now n }
+    /// The point becomes X and Y as they are kept, from an offset on.
+    pub fn start(&mut self, ports: &[u8; PORTS], first: usize)
+        requires { first + 8 ≤ engine_bytes }
+        ensures { self.new ≡ point_started ports.now first }
     {
-        self.x = coordinate_at(ports, 0x10 * n + 8);
-        self.y = coordinate_at(ports, 0x10 * n + 12);
+        self.x = coordinate_at(ports, first);
+        self.y = coordinate_at(ports, first + 4);
     }
 
-    /// The byte at an offset was written: a coordinate whose byte that is is copied.
-    pub fn write(&mut self, ports: &[u8; PORTS], n: usize, at: usize)
-        requires { n ≤ 3 }
-        ensures { self.new ≡ point_written ports.now n at self.old }
+    /// The byte at an offset was written: a coordinate whose byte that is is copied, of X and Y, which stand from an offset on.
+    pub fn write(&mut self, ports: &[u8; PORTS], first: usize, at: usize)
+        requires { first + 8 ≤ engine_bytes }
+        ensures { self.new ≡ point_written ports.now first at self.old }
     {
-        let (x, y) = (0x10 * n + 8, 0x10 * n + 12);
-        if is_within(x, 4, at) {
-            self.x = coordinate_at(ports, x);
-        } else if is_within(y, 4, at) {
-            self.y = coordinate_at(ports, y);
+        if is_within(first, 4, at) {
+            self.x = coordinate_at(ports, first);
+        } else if is_within(first + 4, 4, at) {
+            self.y = coordinate_at(ports, first + 4);
         }
     }
 
-    /// One line further: PB and PD are added.
-    pub fn step(&mut self, ports: &[u8; PORTS], n: usize)
-        requires { n ≤ 3 }
-        ensures { self.new ≡ point_stepped ports.now n self.old }
+    /// One line further: PB and PD are added, of the slopes that stand from an offset on.
+    pub fn step(&mut self, ports: &[u8; PORTS], slopes: usize)
+        requires { slopes + 8 ≤ engine_bytes }
+        ensures { self.new ≡ point_stepped ports.now slopes self.old }
     {
-        self.x = moved_by(self.x, half_at(ports, 0x10 * n + 2));
-        self.y = moved_by(self.y, half_at(ports, 0x10 * n + 6));
+        self.x = moved_by(self.x, half_at(ports, slopes + 2));
+        self.y = moved_by(self.y, half_at(ports, slopes + 6));
     }
 }

@@ -7,15 +7,27 @@ ghost use Rattle.ds_machine.specs.SteadyPorts as ports;
 
 use arm_ops::Near;
 use ds_base::{Proc, Width};
-use ds_map::{NineView, SevenView, is_observed_port};
+use ds_map::{NineView, SevenView};
 use ds_places::{PORTS_FIRST, is_main, is_own};
+use ds_ports::DMA0FILL;
+use gx_fifo::{DISP3DCNT, ENGINE_PAST, GXFIFO};
 
-/// Whether an address names ports of which a read changes nothing, and isn't observed: from 4000000h to 40FFFFFh all but those that are observed.
+/// Whether no port is observed at an offset from 4000000h, nor near it: those that are lie from DISP3DCNT up to DMA's last control, and from GXFIFO
+/// on. It is asked at each load, so it makes no call.
+#[inline(always)]
+fn is_apart(at: u32) -> bool
+    ensures { result ≡ ports.is_apart at }
+{
+    at < DISP3DCNT || (at >= DMA0FILL && (at < GXFIFO || at >= ENGINE_PAST))
+}
+
+/// Whether an address names ports of which a read changes nothing, and isn't observed: from 4000000h to 40FFFFFh all but those of which one may
+/// be.
 #[inline(always)]
 fn is_steady_port(at: u32) -> bool
     ensures { result ≡ ports.is_steady_port at }
 {
-    at >= PORTS_FIRST && at < PORTS_FIRST + 0x10_0000 && !is_observed_port(at - PORTS_FIRST)
+    at >= PORTS_FIRST && at < PORTS_FIRST + 0x10_0000 && is_apart(at - PORTS_FIRST)
 }
 
 /// Whether an address is of ARM7's own work RAM or of main memory.

@@ -9,6 +9,7 @@ ghost use Rattle.ds_runs.specs.OrderLaws.{due_with_rank, first_from};
 ghost use Rattle.ds_runs.specs.declared.actors.Actor.TheVariants.{Geometry};
 ghost use Rattle.ds_machine.specs.Acting.{IsActing};
 ghost use Rattle.ds_machine.specs.NextEvents.{acting_events_of, events_of};
+ghost use Rattle.ds_machine.specs.Private as private;
 ghost use Rattle.ds_machine.specs.Reference.{due_by, processor_due};
 
 use crate::fences::rank_of;
@@ -62,7 +63,8 @@ impl Parts {
     /// The first of the processors that is due, if one is.
     #[inline(always)]
     pub fn first_processor(&self) -> Option<Due>
-        ensures { result ≡ order.earlier (due_with_rank 22 (processor_due self.now Nine)) (due_with_rank 23 (processor_due self.now Seven)) }
+        ensures { result ≡ order.earlier (due_with_rank (private.rank_of Nine) (processor_due self.now Nine))
+            (due_with_rank (private.rank_of Seven) (processor_due self.now Seven)) }
     {
         earlier(
             entry(rank_of(Proc::Nine), self.processor_due(Proc::Nine)),

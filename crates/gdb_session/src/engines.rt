@@ -8,6 +8,7 @@ use crate::looks::{Told, look, who_changes, work};
 use crate::points::Points;
 use crate::stops::{Cause, NO_MEMORY, Stop, TRAPPED, Watched, proc_of};
 use ds_base::{Due, LeftOut, Proc, Tick};
+use ds_runs::ranks;
 use gdb_packets::PointKind;
 
 /// How many steps are taken between two looks whether a state is to be kept.
@@ -108,7 +109,7 @@ fn watch_stop(rank: u8, watched: Watched, proc: Proc) -> Stop {
     Stop {
         proc: proc_of(rank, proc),
         cause: Cause::Watch(watched),
-        actor: if rank < 22 { Some(rank) } else { None },
+        actor: if rank < ranks::ARM9 { Some(rank) } else { None },
     }
 }
 

@@ -1,6 +1,7 @@
 //! Why a run stands.
 
 use ds_base::{LeftOut, Proc};
+use ds_runs::ranks;
 use gdb_packets::PointKind;
 
 /// Bytes that are watched.
@@ -77,8 +78,8 @@ impl Stop {
 /// The processor of a rank; another actor's steps are those of the given one.
 pub fn proc_of(rank: u8, other: Proc) -> Proc {
     match rank {
-        22 => Proc::Nine,
-        23 => Proc::Seven,
+        ranks::ARM9 => Proc::Nine,
+        ranks::ARM7 => Proc::Seven,
         _ => other,
     }
 }

@@ -14,6 +14,7 @@ use arm_core::Reach;
 use ds_base::{Due, Keys, Proc, Tick, Width, known};
 use ds_header::Cart;
 use ds_machine::time_laws;
+use ds_runs::ranks;
 use run_ahead::{Console, turn_laws};
 use sha2::{Digest, Sha256};
 use std::alloc::{AllocError, Global};
@@ -231,7 +232,7 @@ fn rank(proc: Proc) -> u8
     ensures few { result < 24 }
 {
     match proc {
-        Proc::Nine => 22,
-        Proc::Seven => 23,
+        Proc::Nine => ranks::ARM9,
+        Proc::Seven => ranks::ARM7,
     }
 }

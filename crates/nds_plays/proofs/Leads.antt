@@ -5,6 +5,7 @@ use Rattle.nds_plays.proofs.Words.{seen_line, seen_of, step_lines, stops, subst,
 use Rattle.run_ahead.specs.TickTurns.{IsTickBefore, StopsActing, TakesActing}
 use Rattle.ds_runs.specs.Actors.{actor_of}
 use Rattle.ds_machine.specs.Acting.{acting_dues}
+use Rattle.ds_machine.specs.Hearing.{geometry_rank}
 use Rattle.ds_machine.specs.Lagging.{CatchesUp, CatchesUpIf, ComesBeforeAll, TakesGeometry, observes_by}
 use Rattle.ds_machine.specs.Lagging as lagging
 use Rattle.ds_machine.specs.Private.{rank_of}
@@ -22,20 +23,20 @@ use Rattle.ds_machine.proofs.SeenSame.{seen_same}
 
 -- ---- lines
 
-no_match : (proc : Proc) (rank : ℕ) → rank < 22 → nat_eq rank (rank_of proc) ≡ false
+no_match : (proc : Proc) (rank : ℕ) → rank < rank_of Nine → nat_eq rank (rank_of proc) ≡ false
 no_match Nine rank lt = grind (arith, lt)
 no_match Seven rank lt = grind (arith, lt)
 
 -- no actor but a processor has any
-no_line : (proc : Proc) (rank : ℕ) (tick : Tick) (s : MachineState) → rank < 22 → step_lines proc rank tick s ≡ []
+no_line : (proc : Proc) (rank : ℕ) (tick : Tick) (s : MachineState) → rank < rank_of Nine → step_lines proc rank tick s ≡ []
 no_line proc rank tick s lt = ap (λ (b : Bool). if b then seen_line proc tick.0 (seen_of s proc) ∷ [] else []) (no_match proc rank lt)
 
 same_rank : (rank other : ℕ) → nat_eq rank other ≡ true → rank ≡ other
 same_rank rank other h = grind (arith, h)
 
 due_by_rank : (s : MachineState) (proc : Proc) (rank : ℕ) (tick : Tick) → due_at (acting_dues s) rank ≡ Some tick → nat_eq rank (rank_of proc) ≡ true → processor_due s proc ≡ Some tick
-due_by_rank s Nine rank tick acts is = sym (acting_processor s Nine) ∙ ap (due_at (acting_dues s)) (sym (same_rank rank 22 is)) ∙ acts
-due_by_rank s Seven rank tick acts is = sym (acting_processor s Seven) ∙ ap (due_at (acting_dues s)) (sym (same_rank rank 23 is)) ∙ acts
+due_by_rank s Nine rank tick acts is = sym (acting_processor s Nine) ∙ ap (due_at (acting_dues s)) (sym (same_rank rank (rank_of Nine) is)) ∙ acts
+due_by_rank s Seven rank tick acts is = sym (acting_processor s Seven) ∙ ap (due_at (acting_dues s)) (sym (same_rank rank (rank_of Seven) is)) ∙ acts
 
 -- an actor's line is the same after steps of quiet geometry
 line_same : (proc : Proc) (rank : ℕ) (tick : Tick) (s now : MachineState) → CaughtSo s now → due_at (acting_dues s) rank ≡ Some tick → step_lines proc rank tick now ≡ step_lines proc rank tick s
@@ -83,9 +84,9 @@ module _ (until : ℕ) (proc : Proc) where
   least_leads s next tick rank outs least below makes end rest run = record { all = outs ++ rest; whole = more end s next tick rank outs rest least below makes run; lines = refl }
 
   -- geometry's has no line
-  geometry_leads : (s next : MachineState) (tick : Tick) → IsLeast (dues_of s) tick 12 → tick.0 < until → reference_step 12 s ≡ Makes next [] → Leads until proc s [] next
+  geometry_leads : (s next : MachineState) (tick : Tick) → IsLeast (dues_of s) tick geometry_rank → tick.0 < until → reference_step geometry_rank s ≡ Makes next [] → Leads until proc s [] next
   geometry_leads s next tick least below makes =
-      subst (λ (x : List (List ℕ)). Leads until proc s x next) (no_line proc 12 tick s (omega arith)) (least_leads s next tick 12 [] least below makes)
+      subst (λ (x : List (List ℕ)). Leads until proc s x next) (no_line proc geometry_rank tick s (omega arith)) (least_leads s next tick geometry_rank [] least below makes)
 
   takes_lead : (tick rank : ℕ) (s now : MachineState) → IsSound s → ComesBeforeAll tick rank s → 24 * tick + rank ≤ 24 * until → TakesGeometry tick rank s now → Leads until proc s [] now
   takes_lead tick rank s now sound before room (lagging.no_geometry start) = leads_none until proc start
@@ -101,16 +102,16 @@ module _ (until : ℕ) (proc : Proc) where
     after : Runs reference until end next rest
     lines : run_lines proc run ≡ run_lines proc after
 
-  begun : (end : Ending MachineState LeftOut) (s next : MachineState) (all : List Shown) (due : Tick) → IsLeast (dues_of s) due 12 → due.0 < until → reference_step 12 s ≡ Makes next []
+  begun : (end : Ending MachineState LeftOut) (s next : MachineState) (all : List Shown) (due : Tick) → IsLeast (dues_of s) due geometry_rank → due.0 < until → reference_step geometry_rank s ≡ Makes next []
       → (run : Runs reference until end s all) → Begun end s next all run
-  begun end s next all due least below makes (over s0 none) = (let le = none 12 due least.there in absurd (omega (arith, le, below)))
+  begun end s next all due least below makes (over s0 none) = (let le = none geometry_rank due least.there in absurd (omega (arith, le, below)))
   begun end s next all due least below makes (stops s0 after tick rank stop least₁ below₁ halts) =
-      let same = least_unique (dues_of s0) tick rank due 12 least₁ least in
+      let same = least_unique (dues_of s0) tick rank due geometry_rank least₁ least in
       absurd (not_both next after [] stop (sym makes ∙ subst (λ (r : ℕ). reference_step r s0 ≡ Stops stop after) same.1 halts))
   begun end s next all due least below makes (more end₀ s0 mid tick rank outs rest least₁ below₁ goes run) =
-      let same = least_unique (dues_of s0) tick rank due 12 least₁ least in
+      let same = least_unique (dues_of s0) tick rank due geometry_rank least₁ least in
       let both = same_makes mid next outs [] (sym (subst (λ (r : ℕ). reference_step r s0 ≡ Makes mid outs) same.1 goes) ∙ makes) in
-      let told = no_line proc rank tick s0 (let twelve = same.1 in omega (arith, twelve)) in
+      let told = no_line proc rank tick s0 (let its = same.1 in omega (arith, its)) in
       let whole : Runs reference until end₀ s0 (outs ++ rest) = more end₀ s0 mid tick rank outs rest least₁ below₁ goes run in
       let here : Begun end₀ s0 mid (outs ++ rest) whole = record { rest = rest; after = run; lines = ap (λ (x : List (List ℕ)). x ++ run_lines proc run) told } in
       subst (λ (m : MachineState). Begun end₀ s0 m (outs ++ rest) whole) both.0 here

@@ -2,6 +2,8 @@
 
 ghost use Rattle.std.specs.Prelude.{◌≡◌, ◌<◌, ◌≤◌, ◌^◌, false, true, IfSome, None, Some};
 ghost use Rattle.ds_base.specs.declared.left_out.LeftOut.{LeftOut};
+ghost use Rattle.ds_base.specs.declared.processors.Proc.TheVariants.{Nine};
+ghost use Rattle.ds_machine.specs.Private as private;
 ghost use Rattle.ds_machine.specs.TurnLaws.{HasEnds, HasLimit};
 ghost use Rattle.ds_machine.specs.Reference.{dues_of};
 ghost use Rattle.ds_machine.specs.Steps.{processor_of};
@@ -178,7 +180,7 @@ fn take_event(machine: &mut Machine, acting: Due, until: Tick) -> Done
     requires early { until.0 ≤ 2 ^ 56 }
     requires going { IsRunning last_limit machine.old }
     requires acting { IsActing machine.old acting }
-    requires event { acting.rank < 22 }
+    requires event { acting.rank < private.rank_of Nine }
     requires below { acting.tick.0 < until.0 }
     ensures { TookTurn until.0 machine.old result machine.new }
 {

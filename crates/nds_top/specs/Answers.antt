@@ -1,12 +1,11 @@
 use Rattle.std.specs.Prelude.{ℕ, ◌≡◌, List}
 use Rattle.nds_words.specs.Words.{Asked, AskRun, AskList, AskAsm, AskTrace, AskPeek, AskDemo, AskSave, AskResume, Asks, AskNothing}
-use Rattle.nds_answers.specs.Notes.{note_of}
 use Rattle.nds_answers.specs.declared.statuses.Status.{Status}
 use Rattle.nds_answers.specs.declared.statuses.Status.TheVariants.{Usage}
-use Rattle.nds_plays.specs.Calls.{Call, GivesBy, IsUntouched}
+use Rattle.nds_plays.specs.Calls.{Call, GivesBy, IsUntouched, switched_on}
 use Rattle.nds_plays.specs.Watches.{peeked}
 use Rattle.nds_top.specs.ListingAnswers.{ListGives, AsmGives}
-use Rattle.nds_top.specs.RunAnswers.{RunGives}
+use Rattle.nds_top.specs.RunAnswers.{RanFrom}
 use Rattle.nds_top.specs.StateAnswers.{ResumeGives, SavedBy}
 use Rattle.nds_top.specs.ViewAnswers.{DemoGives, TracedBy, WroteAfter}
 
@@ -14,7 +13,8 @@ use Rattle.nds_top.specs.ViewAnswers.{DemoGives, TracedBy, WroteAfter}
 
 -- when each answer to what is asked for comes, and of which file it speaks
 abbrev pub CommandGives : Call → Asked → List ℕ → Status → Type 0
-CommandGives c (AskRun cart keys ticks keep) named status = RunGives c cart keys ticks keep named status
+CommandGives c (AskRun cart keys ticks keep) named status =
+    GivesBy c cart keys (λ boot. RanFrom c ticks keep (switched_on boot) status) named status
 CommandGives c (AskList name proc set) named status = ListGives c name proc set status × (named ≡ name)
 CommandGives c (AskAsm name) named status = AsmGives c name status × (named ≡ name)
 CommandGives c (AskTrace cart keys ticks proc count) named status = GivesBy c cart keys (TracedBy c ticks proc count status) named status
@@ -28,9 +28,3 @@ CommandGives c (AskResume state cart keys ticks keep) named status = ResumeGives
 pub data Gives (c : Call) (words : List (List ℕ)) (named : List ℕ) (status : Status) : Type 0 where
   nothing : AskNothing words → status ≡ Usage → IsUntouched c → Gives c words named status
   command : (asked : Asked) → Asks words asked → CommandGives c asked named status → Gives c words named status
-
--- the answer comes so, and its line, with the file of which it speaks, was to be taken so
-pub record Answered (c : Call) (words : List (List ℕ)) (status : Status) (takes : List ℕ → Type 0) : Type 0 where
-  pub named : List ℕ
-  pub gives : Gives c words named status
-  pub line : takes (note_of status named)

@@ -1,13 +1,13 @@
-use Rattle.std.specs.Prelude.{ℕ, ◌≡◌, List, Option, Some, None}
+use Rattle.std.specs.Prelude.{ℕ, ◌≡◌, Some, None}
 use Rattle.ds_runs.specs.Runs.{At, Stopped}
 use Rattle.run_ahead.specs.Consoles.{ConsoleState}
 use Rattle.nds_words.specs.declared.commands.Keep.{Keep}
 use Rattle.nds_answers.specs.declared.statuses.Status.{Status}
 use Rattle.nds_answers.specs.declared.statuses.Status.TheVariants.{Done, WriteFault, LeftOut}
-use Rattle.nds_plays.specs.Calls.{Call, GivesBy, Seated, switched_on}
+use Rattle.nds_plays.specs.Calls.{Call, Seated}
 use Rattle.nds_plays.specs.Plays.{Wrote, WroteFront}
 
--- When each answer to `run` comes, and what it leaves. Want of memory is free.
+-- When each answer comes of running a console to a tick, and what it leaves. Want of memory is free.
 
 -- what running a console to a tick did, by the status
 abbrev pub RanFrom : Call → ℕ → Keep → ConsoleState → Status → Type 0
@@ -19,7 +19,3 @@ RanFrom c ticks keep start (LeftOut left) = Seated c ticks start (λ k. Wrote c.
 -- a front of that output was written, whose end has the count of turns to the end of the run: the console in the seat may be before it
 RanFrom c ticks keep start WriteFault = c.out_rose × Seated c ticks start (λ k. WroteFront c.wrote_front ticks keep start)
 RanFrom c ticks keep start other = ⊥
-
--- when each answer to `run` comes, and of which file it speaks
-abbrev pub RunGives : Call → List ℕ → Option (List ℕ) → ℕ → Keep → List ℕ → Status → Type 0
-RunGives c cart keys ticks keep named status = GivesBy c cart keys (λ boot. RanFrom c ticks keep (switched_on boot) status) named status

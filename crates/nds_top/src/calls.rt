@@ -1,12 +1,12 @@
 //! The top call.
 
-ghost use Rattle.std.specs.Prelude.{◌≡◌, None, map};
+ghost use Rattle.std.specs.Prelude.{◌≡◌, List, None, map, ℕ};
 ghost use Rattle.std.specs.String.{string_bytes};
 ghost use Rattle.ds_io.specs.Shelves.{files_of};
 ghost use Rattle.nds_plays.specs.Calls.{around};
-ghost use Rattle.nds_top.specs.Answers.{Answered, CommandGives};
+ghost use Rattle.nds_top.specs.Answers.{CommandGives, Gives};
 ghost use Rattle.nds_words.specs.CommandLaws.{asked_by};
-ghost use Rattle.nds_answers.specs.Notes.{Noted};
+ghost use Rattle.nds_answers.specs.Notes.{Noted, note_of};
 ghost use Rattle.nds_words.specs.Words.{IsAllowed};
 
 use crate::demos::demo;
@@ -55,8 +55,10 @@ pub fn ds_main<F: Shelf, O: Sink, N: Sink>(
     seat: &mut Option<Console>,
 ) -> Status
     requires { seat.old ≡ None }
-    ensures answer { Answered (around F.told F.faults O.tells O.taken O.faults shelf.old shelf.new out.old out.new seat.new)
-        (map string_bytes words.now) result (λ line. Noted N.tells N.taken N.faults line notes.old notes.new) }
+    ensures answer { (named : List ℕ)
+        × Gives (around F.told F.faults O.tells O.taken O.faults shelf.old shelf.new out.old out.new seat.new)
+        (map string_bytes words.now) named result
+        × Noted N.tells N.taken N.faults (note_of result named) notes.old notes.new }
     ensures files { files_of (F.told shelf.new) ≡ files_of (F.told shelf.old) }
 {
     match read_words(words) {

@@ -3,7 +3,8 @@
 ghost use Rattle.std.specs.Prelude.{◌≡◌, ◌≤◌, None, option_map};
 ghost use Rattle.ds_io.specs.Shelves.{files_of};
 ghost use Rattle.nds_plays.specs.Calls.{around};
-ghost use Rattle.nds_top.specs.RunAnswers.{RunGives};
+ghost use Rattle.nds_words.specs.Words.{AskRun};
+ghost use Rattle.nds_top.specs.Answers.{CommandGives};
 ghost use Rattle.nds_top.specs.Inside.{RunsSo};
 
 use ds_base::Tick;
@@ -26,8 +27,8 @@ pub fn run<'a, F: Shelf, O: Sink>(
 ) -> Ended<'a>
     requires early { ticks ≤ 100000000000 }
     requires empty { seat.old ≡ None }
-    ensures answer { RunGives (around F.told F.faults O.tells O.taken O.faults shelf.old shelf.new out.old out.new seat.new) files.entry.cart.now
-        (option_map (λ name. name.now) files.entry.keys) ticks keep result.file.now result.status }
+    ensures answer { CommandGives (around F.told F.faults O.tells O.taken O.faults shelf.old shelf.new out.old out.new seat.new)
+        (AskRun files.entry.cart.now (option_map (λ name. name.now) files.entry.keys) ticks keep) result.file.now result.status }
     ensures files { files_of (F.told shelf.new) ≡ files_of (F.told shelf.old) }
 {
     if let Err(ended) = seat_run(alloc, files.cart, files.keys, shelf, seat) {

@@ -4,8 +4,8 @@ use Rattle.nds_top.proofs.calls.ds_main.Goals as goal
 
 pub returns-in-None : goal.returns-in-None
 returns-in-None g c =
-    record { answer = record { named = []; gives = nothing c.in-None.ensures.none refl (refl, c.requires); line = c.note.ensures }; files = refl }
+    record { answer = ([], nothing c.in-None.ensures.none refl (refl, c.requires), c.note.ensures); files = refl }
 
 pub returns-in-Some : goal.returns-in-Some
 returns-in-Some g c =
-    record { answer = record { named = c.carry_out-ended.result.file.now; gives = command (asked_by c.in-Some.command) c.in-Some.ensures.some c.carry_out-ended.ensures.answer; line = c.note-in-Some.ensures }; files = c.carry_out-ended.ensures.files }
+    record { answer = (c.carry_out-ended.result.file.now, command (asked_by c.in-Some.command) c.in-Some.ensures.some c.carry_out-ended.ensures.answer, c.note-in-Some.ensures); files = c.carry_out-ended.ensures.files }

@@ -4,6 +4,7 @@ use Rattle.ds_machine.proofs.Words.{Seven, Some, SquareRoot, Tick, Timer, Video,
 use Rattle.ds_machine.proofs.Words.{blocks_processor, channel_at, due_at, due_by, due_of_rank, due_then, dues_of, false, inl, inr, io_due, io_of}
 use Rattle.ds_machine.proofs.Words.{is_blocked, is_halted, is_some, option_map, or_parts, processor_due, processor_of, rank_of, refl, subst, suc, sym}
 use Rattle.ds_machine.proofs.Words.{tick_of, true, true≢false, zero, ℕ, ◌<◌, ◌∙◌, ◌≡◌, ◌≤◌}
+use Rattle.ds_runs.proofs.AllActors.{actor_rank}
 use Rattle.ds_runs.specs.declared.actors.Actor as actor
 use Rattle.ds_machine.proofs.ActingDues.{acting_processor, other_acts}
 use Rattle.ds_machine.proofs.Moves.{later_if}
@@ -21,8 +22,8 @@ comes_late Card = false
 comes_late (Dma proc channel) = true
 comes_late (Processor proc) = true
 
--- those have ranks of 10 and above
-late_rank : (rank : ℕ) → comes_late (actor_of rank) ≡ true → 10 ≤ rank
+-- those have ranks from the divider's on
+late_rank : (rank : ℕ) → comes_late (actor_of rank) ≡ true → actor_rank Divider ≤ rank
 late_rank zero h = absurd (true≢false (sym h))
 late_rank (suc zero) h = absurd (true≢false (sym h))
 late_rank (suc (suc zero)) h = absurd (true≢false (sym h))
@@ -35,38 +36,39 @@ late_rank (suc (suc (suc (suc (suc (suc (suc (suc zero)))))))) h = absurd (true�
 late_rank (suc (suc (suc (suc (suc (suc (suc (suc (suc zero))))))))) h = absurd (true≢false (sym h))
 late_rank (suc (suc (suc (suc (suc (suc (suc (suc (suc (suc n)))))))))) h = omega arith
 
--- a timer has a rank below 10
-record HasTimer (proc : Proc) (which rank : ℕ) : Type 0 where
-  low : rank < 10
-  there : actor_of rank ≡ Timer proc which
+-- and a timer has one below it
+record HasTimer (proc : Proc) (which : ℕ) : Type 0 where
+  low : actor_rank (Timer proc which) < actor_rank Divider
+  there : actor_of (actor_rank (Timer proc which)) ≡ Timer proc which
 
-timer_rank : (proc : Proc) (which : ℕ) → which < 4 → (rank : ℕ) × HasTimer proc which rank
-timer_rank Nine zero lt = (2, record { low = omega arith; there = refl })
-timer_rank Nine (suc zero) lt = (3, record { low = omega arith; there = refl })
-timer_rank Nine (suc (suc zero)) lt = (4, record { low = omega arith; there = refl })
-timer_rank Nine (suc (suc (suc zero))) lt = (5, record { low = omega arith; there = refl })
-timer_rank Seven zero lt = (6, record { low = omega arith; there = refl })
-timer_rank Seven (suc zero) lt = (7, record { low = omega arith; there = refl })
-timer_rank Seven (suc (suc zero)) lt = (8, record { low = omega arith; there = refl })
-timer_rank Seven (suc (suc (suc zero))) lt = (9, record { low = omega arith; there = refl })
+timer_rank : (proc : Proc) (which : ℕ) → which < 4 → HasTimer proc which
+timer_rank Nine zero lt = record { low = omega arith; there = refl }
+timer_rank Nine (suc zero) lt = record { low = omega arith; there = refl }
+timer_rank Nine (suc (suc zero)) lt = record { low = omega arith; there = refl }
+timer_rank Nine (suc (suc (suc zero))) lt = record { low = omega arith; there = refl }
+timer_rank Seven zero lt = record { low = omega arith; there = refl }
+timer_rank Seven (suc zero) lt = record { low = omega arith; there = refl }
+timer_rank Seven (suc (suc zero)) lt = record { low = omega arith; there = refl }
+timer_rank Seven (suc (suc (suc zero))) lt = record { low = omega arith; there = refl }
 timer_rank proc (suc (suc (suc (suc n)))) lt = absurd (omega (arith, lt))
 
 -- the least of some due ticks, among which the timers' are
 timers_past : (s : MachineState) (dues : List (Option Tick)) (tick : Tick) (rank : ℕ) → IsLeast dues tick rank → comes_late (actor_of rank) ≡ true
-    → ((each : ℕ) → each < 10 → due_at dues each ≡ due_by (actor_of each) s) → (proc : Proc) (which : ℕ) → which < 4 → IsLater tick (io_due (Timer proc which) s.io)
+    → ((each : ℕ) → each < actor_rank Divider → due_at dues each ≡ due_by (actor_of each) s) → (proc : Proc) (which : ℕ) → which < 4 → IsLater tick (io_due (Timer proc which) s.io)
 timers_past s dues tick rank least late by proc which lt = later_if tick (io_due (Timer proc which) s.io) (λ at h.
     (let high = late_rank rank late in
     let has = timer_rank proc which lt in
-    let low = has.1.low in
-    let there : due_at dues has.0 ≡ Some at = by has.0 low ∙ ap (λ (a : actor.Actor). due_by a s) has.1.there ∙ h in
-    elim (least.least has.0 at there) [ inl before ↦ before | inr same ↦ absurd (omega (arith, same.1, high, low)) ]))
+    let low = has.low in
+    let its = actor_rank (Timer proc which) in
+    let there : due_at dues its ≡ Some at = by its low ∙ ap (λ (a : actor.Actor). due_by a s) has.there ∙ h in
+    elim (least.least its at there) [ inl before ↦ before | inr same ↦ absurd (omega (arith, same.1, high, low)) ]))
 
 pub timers_later : (s : MachineState) (tick : Tick) (rank : ℕ) → IsLeast (dues_of s) tick rank → comes_late (actor_of rank) ≡ true
     → (proc : Proc) (which : ℕ) → which < 4 → IsLater tick (io_due (Timer proc which) s.io)
 timers_later s tick rank least late = timers_past s (dues_of s) tick rank least late (λ each low. due_of_rank s each (omega (arith, low)))
 
 -- those below geometry's rank act where they are due
-low_acts : (s : MachineState) (rank : ℕ) → rank < 10 → due_at (acting_dues s) rank ≡ due_by (actor_of rank) s
+low_acts : (s : MachineState) (rank : ℕ) → rank < actor_rank Divider → due_at (acting_dues s) rank ≡ due_by (actor_of rank) s
 low_acts s rank low = other_acts s rank (omega (arith, low)) (λ e. omega (arith, low, e)) ∙ due_of_rank s rank (omega (arith, low))
 
 pub acting_timers_later : (s : MachineState) (tick : Tick) (rank : ℕ) → IsLeast (acting_dues s) tick rank → comes_late (actor_of rank) ≡ true
@@ -117,9 +119,10 @@ quiet_acting s tick proc least = quiet_due s tick proc (sym (acting_processor s 
 fence_timers : (s : MachineState) (proc : Proc) (tick : Tick) → IsBelowFence s proc tick → (which : ℕ) → which < 4 → IsLater tick (io_due (Timer proc which) s.io)
 fence_timers s proc tick below which lt = later_if tick (io_due (Timer proc which) s.io) (λ at h.
     (let has = timer_rank proc which lt in
-    let there : due_at (acting_dues s) has.0 ≡ Some at = low_acts s has.0 has.1.low ∙ ap (λ (a : actor.Actor). due_by a s) has.1.there ∙ h in
+    let rank = actor_rank (Timer proc which) in
+    let there : due_at (acting_dues s) rank ≡ Some at = low_acts s rank has.low ∙ ap (λ (a : actor.Actor). due_by a s) has.there ∙ h in
     let P : actor.Actor → Type 0 = λ a. Fences a proc s in
-    below has.0 at there (subst P (sym has.1.there) refl)))
+    below rank at there (subst P (sym has.there) refl)))
 
 pub quiet_ahead : (s : MachineState) (proc : Proc) → IsAhead s proc → HasOnlyLaterEvents (tick_of (processor_of s proc)) (io_of s.io proc)
 quiet_ahead s proc ahead = record {

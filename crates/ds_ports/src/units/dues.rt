@@ -1,6 +1,6 @@
 //! When the units are due.
 
-ghost use Rattle.std.specs.Prelude.{◌≡◌, ◌<◌, ◌==◌, ◌∷◌, [], Some};
+ghost use Rattle.std.specs.Prelude.{◌≡◌, ◌<◌, ◌==◌, ◌∷◌, ◌^◌, [], Some};
 ghost use Rattle.ds_base.specs.declared.processors.Proc.TheVariants.{Nine};
 ghost use Rattle.ds_runs.specs.Actors.{IsNumbered};
 ghost use Rattle.ds_runs.specs.declared.actors.Actor.TheVariants.{Geometry};
@@ -60,16 +60,17 @@ impl Units {
         }
     }
 
-    /// The first of ARM9's DMA channels that is due.
+    /// The first of ARM9's DMA channels that is due; their ranks begin at one and go up.
     #[tactic(auto, using(crate::proofs::HeldDues::held_first))]
-    fn first_channel_of_nine(&self) -> Option<Due>
-        ensures { result ≡ first_from 14 (dma_due_in self.now Nine 0 ∷ dma_due_in self.now Nine 1 ∷ dma_due_in self.now Nine 2
+    fn first_channel_of_nine(&self, rank: u8) -> Option<Due>
+        requires { rank < 2 ^ 6 }
+        ensures { result ≡ first_from rank (dma_due_in self.now Nine 0 ∷ dma_due_in self.now Nine 1 ∷ dma_due_in self.now Nine 2
             ∷ dma_due_in self.now Nine 3 ∷ []) }
     {
         if self.gx.stalled() {
             return None;
         }
-        let due = self.nine.first_channel(ranks::CHANNELS_OF_NINE)?;
+        let due = self.nine.first_channel(rank)?;
         Some(Due {
             tick: Tick(self.released.max(due.tick.0)),
             rank: due.rank,
@@ -131,7 +132,7 @@ impl Units {
         ensures { Some result ≡ first_with geometry self.now }
     {
         let mut first = earlier(
-            self.first_channel_of_nine(),
+            self.first_channel_of_nine(ranks::CHANNELS_OF_NINE),
             self.seven.first_channel(ranks::CHANNELS_OF_SEVEN),
         );
         first = earlier(entry(ranks::CARD, self.card.due()), first);
